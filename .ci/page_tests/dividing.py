@@ -2,7 +2,6 @@
 import json
 import os
 import re
-import time
 
 from rig import PAGE
 from tally import TOP, check, program, same
@@ -76,9 +75,9 @@ def divided(p, address, case, is_passed, look_at, shots):
     p.open(address)
     p.one('main .kind, main .row button.main')
     if p.run('return document.documentElement.lang') != 'en':  # files on a disk share what they remember: another part chose this one
+        p.run('document.querySelector("main").firstElementChild.dataset.old = ""')
         p.speak('en')
-        p.until(lambda: p.run('return document.documentElement.lang') == 'en', 20, 'the page does not speak English')
-        time.sleep(0.5)
+        p.until(lambda: p.all('html[lang=en] main > :not([data-old])'), 20, 'the page does not speak English')
     fresh(p)
     p.click(f'.kind.{case["kind"]}')
     written(p, case)
@@ -88,16 +87,15 @@ def divided(p, address, case, is_passed, look_at, shots):
     look_at(p, f'the form of {what}')
     p.press('Go on')
     places(p, case) if case['kind'] == 'fares' and not is_passed else bids(p, case, is_passed)
-    p.one('#verdict', 60)
-    p.until(lambda: p.values('#judges', 'data-by') == ['both'], 60, 'the second check does not end')
-    same(f'the verdict of {what}', p.values('#verdict', 'data-verdict'), ['yes'])
+    p.judged()
+    same(f'the verdict of {what}', [p.values('#verdict', 'data-verdict'), p.values('#judges', 'data-by')], [['yes'], ['both']])
     certificate = program('solve 1', json.dumps(case))
     path = f'{p.profile}/files/division-certificate.txt'
     if os.path.exists(path):
-        os.remove(path)
+        os.remove(path)  # that of an earlier division
     p.run('for (const one of document.querySelectorAll("main details")) one.open = true')
     p.press('Certificate')
-    p.until(lambda: os.path.exists(path) and os.path.getsize(path) > 0, 15, 'the certificate is not saved')
+    p.until(lambda: p.saved('division-certificate.txt'), 15, 'the certificate is not saved')
     same(f'the certificate of {what}', open(path, encoding='utf-8').read(), certificate)
     report = program('report 1', json.dumps(case))
     if case['kind'] != 'goods':
@@ -155,7 +153,7 @@ def kept(p, address):
     p.run('document.querySelectorAll("input[name=how]")[1].click()')
     p.press('Go on')
     bids(p, ESTATE, False)
-    p.one('#verdict', 60)
+    p.judged()
     asks = 'const e = new Event("beforeunload", {cancelable: true}); window.dispatchEvent(e); return e.defaultPrevented'
     check('whoever leaves is asked', p.run(asks))
     for how in ('Change something', 'reload'):
@@ -212,10 +210,8 @@ def alone(rig, olive, ann, ben, look_at, shots):
     same('no host was asked for anything', len(rig.lossy.seen), asked)
     same('the file asked for nothing', [name for name in ann.run('return performance.getEntriesByType("resource").map((e) => e.name)')
                                         if not name.startswith('blob:')], [])
-    path = f'{ann.profile}/files/division.png'
     ann.press('Save as picture')
-    ann.until(lambda: os.path.exists(path) and os.path.getsize(path) > 0, 15, 'no picture is saved')
-    with open(path, 'rb') as picture:
+    with open(ann.until(lambda: ann.saved('division.png'), 15, 'no picture is saved'), 'rb') as picture:
         same('the picture is a PNG', picture.read(8), b'\x89PNG\r\n\x1a\n')
 
 
@@ -256,8 +252,7 @@ def judges(rig, olive, ann, ben):
         p.one('#text')
         p.run('document.getElementById("text").value = arguments[0]', flat)
         p.press('Check')
-        p.one('#verdict', 60)
-        p.until(lambda: p.values('#judges', 'data-by') in (['both'], ['script']), 60, 'the second check does not end')
+        p.judged()
         return p.values('#verdict', 'data-verdict') + p.values('#judges', 'data-by')
     ann.open(rig.url + '#check')
     same('both have judged', checked(ann), ['yes', 'both'])

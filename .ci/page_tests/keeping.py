@@ -154,8 +154,7 @@ def drafts(rig, olive, ann, ben):
     check('when the result is there is told', re.search(r'The result appears here after \w+day.* at \d\d:\d\d: keep this link', ann.text('#stands')), ann.text('#stands'))
     ann.one('#stands + div button')
     ann.press('Add to calendar')
-    path = f'{ann.profile}/files/round-{urls["link-1"].split("#")[1].split(".")[0]}.ics'
-    ann.until(lambda: os.path.exists(path) and os.path.getsize(path) > 0, 15, 'no appointment')
+    path = ann.until(lambda: ann.saved(f'round-{urls["link-1"].split("#")[1].split(".")[0]}.ics'), 15, 'no appointment')
     with open(path, encoding='utf-8', newline='') as file:
         text = file.read()
     check('an appointment with the link', text.startswith('BEGIN:VCALENDAR\r\n') and urls['link-1'] in text.replace('\r\n ', ''), text)

@@ -45,7 +45,8 @@ AUDITED = ((320, False, True), (320, True, False), (1200, False, False))
 
 
 def look_at(p, what):
-    """Audits a view at the widths of a small phone and of a desktop, light and dark."""
+    """Audits a view at the widths of a small phone and of a desktop, light and dark, once all of it is there."""
+    p.settled()
     for width, dark, spaced in AUDITED:
         p.look(dark)
         p.size(width, 844)
@@ -60,6 +61,7 @@ def shots(p, what):
     """Takes pictures of a view, if they were asked for."""
     if not TALLY.shots:
         return
+    p.settled()
     for name, width, dark in (('phone', 390, False), ('desk', 1200, False), ('phone-dark', 390, True), ('desk-dark', 1200, True)):
         p.look(dark)
         p.size(width, 844)
@@ -132,7 +134,7 @@ def unfold(p):
 
 def result_of(p):
     """Waits for a result, and unfolds all of it."""
-    p.one('#verdict[data-verdict=yes]', 60)
+    p.judged('yes')
     unfold(p)
 
 
@@ -156,24 +158,15 @@ def rows_of(report, pattern):
     return [re.match(pattern, line).groups() for line in report.splitlines() if line[:1].isdigit()]
 
 
-PARTIAL = ('.crdownload', '.part', '.wkdownload')  # at the end of the name of a file that is still being saved
-
-
-def holds(path):
-    """Whether a file has been downloaded: a browser first makes an empty one."""
-    return os.path.exists(path) and os.path.getsize(path) > 0 and not any(os.path.exists(path + partial) for partial in PARTIAL)
-
-
 def files(p, name, wanted):
     """The files of a result must be what the program writes."""
     unfold(p)
     for button, what, text in wanted:
         p.press(button)
-        path = f'{p.profile}/files/{name}-{what}.txt'
         try:
-            p.until(lambda: holds(path), 15)
+            path = p.until(lambda: p.saved(f'{name}-{what}.txt'), 15)
         except AssertionError:
-            check(f'{path} is downloaded', False)
+            check(f'{name}-{what}.txt is downloaded', False)
             continue
         with open(path, encoding='utf-8') as file:
             same(f'the file {what}', file.read(), text)
@@ -321,9 +314,7 @@ def rent(rig, olive, ann, ben):
     look_at(ann, 'the result of a rent')
     files(ann, 'round-1', [('Report', 'report', report), ('Certificate', 'certificate', program('solve 1', case))])
     ann.press('Save the result')
-    saved = f'{ann.profile}/files/round-1.json'
-    ann.until(lambda: holds(saved), 15, 'nothing is saved')
-    with open(saved, encoding='utf-8') as file:
+    with open(ann.until(lambda: ann.saved('round-1.json'), 15, 'nothing is saved'), encoding='utf-8') as file:
         same('the saved file', json.load(file), {'fairsplit': 1, 'title': 'Flat in Mill Road', 'members': people, 'items': rooms, 'currency': 'EUR', 'certificate': program('solve 1', case)})
     if TALLY.picture:
         picture(ann)
@@ -342,7 +333,7 @@ def printed(p, what):
     """What is printed fits on one sheet, without links, keys or buttons."""
     if p.run('return document.querySelectorAll("main details[open]").length'):
         p.reload()
-        p.one('#verdict[data-verdict=yes]', 60)
+        p.judged('yes')
     if not hasattr(p, 'cdp'):
         return
     sheet = base64.b64decode(p.cdp('Page.printToPDF', preferCSSPageSize=True)['data'])
@@ -431,6 +422,7 @@ def goods(rig, olive, ann, ben):
 def heirs(rig, olive, ann, ben):
     """Goods for two, whose deadline passes while someone is looking; a result with envy; and goods whose search doesn't end."""
     things, values = ['Desk', 'Lamp', 'Chair'], [[700, 200, 100], [800, 150, 50]]
+    ann.open(rig.url)  # a browser that only starts now would take of the time that is left
     made = api(rig, 'instances', body={'kind': 'goods', 'title': 'Attic', 'members': ['Ann', 'Ben', 'Dan'], 'goods': things, 'deadline': soon(40), 'tag': tag()})
     for i in (0, 1):
         api(rig, f'instances/{made["id"]}/bids', made['keys'][i], {'turn': 1, 'values': values[i]})
@@ -640,12 +632,11 @@ def keys_alone(rig, olive, ann, ben):
     p.open(urls['link-0'])
     p.until(lambda: p.enabled('Show the result'), 60, 'close is not offered')
     press('Show the result', p.keys_that_ask)
-    p.one('#verdict[data-verdict=yes]', 60)
+    p.judged('yes')
     same('and then the focus is at the heading', p.focused()['tag'], 'H1')
     press('Checked in this browser')
     press('Certificate')
-    path = f'{p.profile}/files/round-{urls["link-0"].split("#")[1].split(".")[0]}-certificate.txt'
-    p.until(lambda: holds(path), 15, 'the certificate is not saved by keys')
+    p.until(lambda: p.saved(f'round-{urls["link-0"].split("#")[1].split(".")[0]}-certificate.txt'), 15, 'the certificate is not saved by keys')
 
 
 def checker(rig, olive, ann, ben):
@@ -664,8 +655,7 @@ def checker(rig, olive, ann, ben):
             rule = verdict[1] if len(verdict) > 1 else '0'
             ben.run(cleared, text)
             ben.press('Check')
-            ben.one('#verdict')
-            ben.until(lambda: ben.enabled('Check'), 10)
+            ben.judged()
             same(f'{address[:5]} the verdict', [ben.values('#verdict', 'data-verdict')[0], ben.values('#verdict', 'data-rule')[0]], [verdict[0], rule])
         look_at(ben, 'the view that checks')
         shots(ben, '9-check' if address.startswith('http') else '9-check-file')

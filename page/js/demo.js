@@ -92,6 +92,7 @@ class Demo {
   async solve() {
     if (this.isBusy) { this.isStale = true; return; }
     this.isBusy = true;
+    this.out.setAttribute('aria-busy', 'true');
     const made = structuredClone(this.made);
     const answer = await this.solver.solve(made);
     this.isBusy = false;
@@ -100,6 +101,7 @@ class Demo {
   }
 
   show({ status, text: written, says }) {
+    this.out.removeAttribute('aria-busy');
     if (status !== 0 || says !== 'yes') {
       fill(this.out, p(t(status === null ? 'divide.noModule' : 'demo.none')));
       return;

@@ -29,7 +29,11 @@ function judgedBy({ verdict, by, proved, script, isLowered, isOver }) {
   return [t(isLowered ? 'judge.lowered' : 'judge.proved'), ' ', t(second)];
 }
 
-const judges = (found) => h('p', { id: 'judges', 'data-by': found.by }, judgedBy(found));
+/** Whether the second check is still to come. */
+const isGoingOn = ({ verdict, isOver }) => !isOver && verdict !== 'none' && verdict !== 'differ';
+
+const judges = (found) => h('p', { id: 'judges', 'data-by': found.by, 'aria-busy': isGoingOn(found) && 'true' },
+  judgedBy(found));
 const told = (found, differ) => (
   { id: 'verdict', 'data-verdict': found.verdict, 'data-rule': found.rule ?? 0, 'data-differ': differ.length });
 
@@ -62,9 +66,10 @@ export const nothingChecked = (why) => h('div',
   p(h('strong', {}, t('check.nothing'))), p(why));
 
 /** What the second check looked at: facts in plain words, then the rules one by one. */
-export function findings({ verdict, by, second }) {
+export function findings(found) {
+  const { verdict, second } = found;
   if (verdict === 'refused' || verdict === 'none') return [];
-  if (!second) return by === 'proved' ? h('p', { id: 'branches' }, t('judge.again')) : [];
+  if (!second) return isGoingOn(found) ? h('p', { id: 'branches' }, t('judge.again')) : [];
   return [
     second.facts.length > 0 && h('ul', { class: 'rules' }, second.facts.map(ruleLine)),
     h('details', { open: second.verdict === 'no' }, h('summary', {}, t('check.rules', { n: second.rules.length })),
@@ -80,7 +85,9 @@ export function tellBranches(root, count) {
 
 /** The second check has ended, and the verdict stands: its words and its findings are added. */
 function settle(root, found) {
-  fill(root.querySelector('#judges'), judgedBy(found)).setAttribute('data-by', found.by);
+  const said = fill(root.querySelector('#judges'), judgedBy(found));
+  said.setAttribute('data-by', found.by);
+  said.removeAttribute('aria-busy');
   const place = root.querySelector('.second');
   if (place) fill(place, findings(found));
 }
