@@ -169,25 +169,77 @@ def kept(p, address):
         same(f'what Ida said after {how}', p.values('.values input.number', 'value'), ['500', '300', '200'])
 
 
-def stopped(p, address):
-    """An estate for which the search finds no end: nothing is lost, and something is left to do; and Stop."""
-    case = {'kind': 'goods', 'title': 'House', 'members': ['Ann', 'Ben', 'Cy', 'Dee'], 'goods': [f'Thing {i}' for i in range(18)], 'bids': HARD}
+# A worker whose first long search finds no end: it tells how far it is, and then that its steps are over, unless it is to hang. Whatever else it is asked is left to
+# the real one.
+ENDLESS = '''const [isHanging] = arguments;
+const Real = window.Worker;
+window.Worker = class {
+  constructor(...words) { this.real = new Real(...words); this.real.onmessage = (event) => this.onmessage(event); }
+  postMessage(task) {
+    if (!task.estate || window.Worker === Real) { this.real.postMessage(task); return; }
+    window.Worker = Real;
+    const owners = task.numbers[2][0].map((_, good) => good % task.numbers[2].length + 1);
+    setTimeout(() => this.onmessage({data: {progress: {steps: 9, owners}}}));
+    if (!isHanging) setTimeout(() => this.onmessage({data: {status: 1, text: "step limit 20000", owners}}));
+  }
+  terminate() { this.real.terminate(); }
+};'''
+HOUSE = {'kind': 'goods', 'title': 'House', 'members': ['Ann', 'Ben', 'Cy', 'Dee'], 'goods': [f'Thing {i}' for i in range(18)], 'bids': HARD}
+
+
+def without_end(p, address, look_at, shots):
+    """An estate for which the specified search finds no end has a result all the same. Where even the longer search finds none, the best division found is told, it
+    can be changed by hand, and the search goes on."""
     p.open(address)
     fresh(p)
     p.click('.kind.goods')
-    written(p, case)
+    written(p, HOUSE)
     p.run('document.querySelectorAll("input[name=how]")[1].click()')
     p.press('Go on')
-    bids(p, case, False)
-    p.has('There is no result', seconds=60)
-    text = p.text()
-    for words in ('Nobody did anything wrong', 'The best division found', 'isn’t proved to be the best', 'Put small items together', 'Round all points and try again'):
-        check(f'{words!r} is told', words in text, text)
-    check('nothing of links or of a tap is told, since there are none', 'link' not in text and 'tap' not in text, text)
-    check('a division is there, and whom it leaves how', len(p.all('#found li')) >= 4 and 'gets' in p.text('#found'), p.text('#found'))
+    p.run(ENDLESS)
+    bids(p, HOUSE, False)
+    p.has('The best division found', seconds=60)
+    for words in ('isn’t proved to be the best', 'Ann gets', 'would rather have'):
+        check(f'{words!r} is told', words in p.text(), p.text())
+    look_at(p, 'the best division found')
+    shots(p, 'C-found')
+    p.run('const s = document.getElementById("owner-0"); s.value = "1"; s.dispatchEvent(new Event("input", {bubbles: true}))')
+    p.press('Search on')
+    p.judged('yes')
+    check('the search that goes on finds the best', 'Checked in this browser' in p.text(), p.text())
+    same('both judge a certificate of the second kind', p.values('#judges', 'data-by'), ['both'])
+    look_at(p, 'the result of a long search')
+    shots(p, 'C-estate')
+    saved_and_checked(p, address)
     p.press('Change something')
     p.press('Go on')
     same('what Ann said is kept', p.values('.values input.number', 'value'), [str(value) for value in HARD[0]])
+
+
+def saved_and_checked(p, address):
+    """The certificate of an estate as a file: the page that checks reads it."""
+    path = f'{p.profile}/files/division-certificate.txt'
+    if os.path.exists(path):
+        os.remove(path)
+    p.run('for (const one of document.querySelectorAll("main details")) one.open = true')
+    p.press('Certificate')
+    text = open(p.until(lambda: p.saved('division-certificate.txt'), 15, 'the certificate is not saved'), encoding='utf-8').read()
+    check('it is one of the second kind', text.startswith('fairsplit 2\nkind goods\nplayers 4\ngoods 18\n'), text[:60])
+    here = p.url()
+    p.open(address.replace('divide.html', 'check.html').replace('#divide', '#check'))
+    for words, verdict in ((text, 'yes'), (text.replace('\nowners ', '\nowners 1 ').replace('\nsteps', ' \nsteps'), 'refused'), (text.replace('tree +', 'tree -'), 'no')):
+        p.one('#text')
+        p.run('document.getElementById("text").value = arguments[0]; document.getElementById("checked").replaceChildren()', words)
+        p.press('Check')
+        p.judged(verdict)
+        same(f'a certificate of the second kind that is {verdict}', p.values('#judges', 'data-by'), ['both'])
+    p.open(here)
+    p.press('Go on')
+    p.press('Go on')
+    for _ in range(3):
+        p.press('Next')
+    p.press('Show the result')
+    p.judged('yes')
 
 
 def alone(rig, olive, ann, ben, look_at, shots):
@@ -202,7 +254,7 @@ def alone(rig, olive, ann, ben, look_at, shots):
     mended(ben, file)
     kept(ben, file)
     kept(ann, page)
-    stopped(ben, file)
+    without_end(ben, file, look_at, shots)
     ben.click('#languages button')
     ben.one('dialog.help[open]')
     ben.click('dialog.help button')

@@ -372,7 +372,6 @@ def goods(rig, olive, ann, ben):
     people, things = ['Ada <b>&amp;', 'Bo\u202eoB', 'Cleo 🌻'], ['Piano', 'Clock', '<img src=x onerror=alert(1)>', 'Ring', 'Paintings']
     values = [[400, 100, 250, 150, 100], [100, 150, 450, 100, 200], [250, 100, 300, 300, 50]]
     fill_form(rig, olive, 'goods', 'House of Ida', people, things)
-    check('few things need no warning', not olive.text('#chance'), olive.text('#chance'))
     shots(olive, '2-form-goods')
     look_at(olive, 'the form of goods')
     rig.lossy.refuse = 3
@@ -420,7 +419,7 @@ def goods(rig, olive, ann, ben):
 
 
 def heirs(rig, olive, ann, ben):
-    """Goods for two, whose deadline passes while someone is looking; a result with envy; and goods whose search doesn't end."""
+    """Goods for two, whose deadline passes while someone is looking; a result with envy; and goods whose search by the server doesn't end."""
     things, values = ['Desk', 'Lamp', 'Chair'], [[700, 200, 100], [800, 150, 50]]
     ann.open(rig.url)  # a browser that only starts now would take of the time that is left
     made = api(rig, 'instances', body={'kind': 'goods', 'title': 'Attic', 'members': ['Ann', 'Ben', 'Dan'], 'goods': things, 'deadline': soon(40), 'tag': tag()})
@@ -428,27 +427,7 @@ def heirs(rig, olive, ann, ben):
         api(rig, f'instances/{made["id"]}/bids', made['keys'][i], {'turn': 1, 'values': values[i]})
     ann.open(f'{rig.url}#{made["id"]}.{made["keys"][0]}')
     ann.has('have answered')
-    many = {'kind': 'goods', 'title': 'Many', 'members': ['Ann', 'Ben'], 'goods': [f'Thing {i}' for i in range(8)], 'limit': 40, 'deadline': '2126-01-01T00:00:00Z', 'tag': tag()}
-    endless = api(rig, 'instances', body=many)
-    for key in endless['keys']:
-        api(rig, f'instances/{endless["id"]}/bids', key, {'turn': 1, 'values': [125] * 8})
-    api(rig, f'instances/{endless["id"]}/close', endless['organiser'], {})
-    olive.open(f'{rig.url}#{endless["id"]}.{endless["keys"][0]}')
-    olive.has('takes more than 40 steps')
-    check('what is left is told', all(words in olive.text() for words in ('Splitting one item', 'Agree on a division of your own', 'multiples of 50')), olive.text())
-    same('adjusted winner', exacts(olive, '#winner')[0:1] != [], True)
-    winner = program('winner', json.dumps({**many, 'bids': [[125] * 8] * 2}))
-    same('shares', exacts(olive, '#winner table')[0::2], re.search(r'^shares (.*)$', winner, re.M)[1].split())
-    shots(olive, '8-no-answer')
-    look_at(olive, 'goods without an answer')
-    ben.open(rig.url + '#new-goods')
-    ben.one('#title')
-    for i in range(20):
-        ben.run('document.querySelector("#things button.add").click()')
-        ben.put(f'#things-{i}', f'Thing {i}')
-    check('many things are told beforehand', 'may end without an answer. Of 20 drawn trials with 2 people and 20 items' in ben.text('#chance'), ben.text('#chance'))
-    shots(ben, '2-form-many-goods')
-
+    two_without_end(rig, olive)
     result_of(ann)  # nobody reloads: the page notes the deadline
     case = json.dumps({'kind': 'goods', 'title': 'Attic', 'members': ['Ann', 'Ben', 'Dan'], 'goods': things, 'bids': values + [None]})
     report, winner = program('report 1', case), program('winner', case)
@@ -459,6 +438,23 @@ def heirs(rig, olive, ann, ben):
     shots(ann, '7-result-two')
     look_at(ann, 'the result for two')
     files(ann, f'round-{made["id"]}', [('Adjusted winner', 'winner', winner)])
+
+
+def two_without_end(rig, p):
+    """Goods for two, whose search by the server doesn't end: a member sees that one item can be split, and takes the result from the organiser."""
+    many = {'kind': 'goods', 'title': 'Many', 'members': ['Ann', 'Ben'], 'goods': [f'Thing {i}' for i in range(8)], 'limit': 40, 'deadline': '2126-01-01T00:00:00Z', 'tag': tag()}
+    endless = api(rig, 'instances', body=many)
+    for key in endless['keys']:
+        api(rig, f'instances/{endless["id"]}/bids', key, {'turn': 1, 'values': [125] * 8})
+    api(rig, f'instances/{endless["id"]}/close', endless['organiser'], {})
+    p.open(f'{rig.url}#{endless["id"]}.{endless["keys"][0]}')
+    p.has('after 40 steps')
+    check('what is left is told', all(words in p.text() for words in ('Splitting one item', 'The organiser’s device can finish it')), p.text())
+    same('adjusted winner', exacts(p, '#winner')[0:1] != [], True)
+    winner = program('winner', json.dumps({**many, 'bids': [[125] * 8] * 2}))
+    same('shares', exacts(p, '#winner table')[0::2], re.search(r'^shares (.*)$', winner, re.M)[1].split())
+    shots(p, '8-no-answer')
+    look_at(p, 'goods without an answer')
 
 
 def fares(rig, olive, ann, ben):

@@ -5,10 +5,12 @@ import { bar, colour, who } from './draw.js';
 import { learnMore, locale, t, text } from './language.js';
 import { money, setCurrency } from './money.js';
 import { currencyOf } from './currencies.js';
-import { LIMITS, STEP, scale } from './rules.js';
+import { LIMITS, scale } from './rules.js';
 import { read } from './check.js';
 import { linesOf } from './poster.js';
 import { Solver } from './solver.js';
+
+const STEP = 50; // points by which a slider moves
 
 /** The invented cases. Names need no translation, but those of things are in the words. */
 const CASES = {

@@ -116,6 +116,7 @@ export function differenceText({ what, then, now, from, to }, { kind, members, t
     members: names, things: names,
     you: (number) => (members[number - 1] === undefined ? text('links.organiser') : name(members[number - 1])),
     bid: (bid) => (bid ? bidText(kind, things, bid) : t('differ.noBid')),
+    held: (bid) => (bid ? bidText(kind, things, bid) : t('differ.noBid')),
   }[what];
   if (!show) return t(`differ.${what}`);
   const given = { then: h('strong', {}, show(then)), now: h('strong', {}, show(now)) };
@@ -139,8 +140,8 @@ export function elsewhere({ said, names: known }, certificate, { file, currency 
   return [
     p(listed(said, known)), p(t('proof.file')),
     h('p', { class: 'row' }, action(save, icon('save'), t('proof.downloadButton')), h('a', page, t('check.file'))),
-    p(t('proof.judge', { program: h('code', {}, 'fairsplit'), yes: h('code', {}, 'yes'),
-      command: h('kbd', {}, `fairsplit check < ${file}-certificate.txt`) })),
+    !said.isEstate && p(t('proof.judge', { program: h('code', {}, 'fairsplit'), yes: h('code', {}, 'yes'),
+      command: h('kbd', {}, `fairsplit check < ${file}-certificate.txt`) })), // the program reads no other kind
   ];
 }
 
