@@ -1,7 +1,6 @@
 """The chart of docs/SEARCH.md: how many of the drawn estates were answered, by people and items. docs/draw.py writes it."""
 import json
 import os
-import re
 
 HERE = os.path.dirname(os.path.abspath(__file__))
 CELL_WIDTH, CELL_HEIGHT, LEFT, TOP, GAP = 34, 24, 44, 64, 36
@@ -9,10 +8,9 @@ SAID = {'any': 'any points', 'stepped': 'multiples of 50'}
 
 
 def independent():
-    """The tables that the page has: everyone's points are drawn for themselves."""
-    with open(os.path.join(HERE, '../page/js/odds.js'), encoding='utf-8') as file:
-        text = file.read().split('ANSWERED = {')[1].split('};')[0]
-    return {key: json.loads(re.sub(r',\s*\]', ']', re.search(key + r': (\[\[.*?\]\]|\[[^\]]*\]|\d+)', text, re.S)[1])) for key in ('of', 'people', 'goods', 'any', 'stepped')}
+    """The tables of people whose points are drawn for themselves."""
+    with open(os.path.join(HERE, 'goods_answered.json'), encoding='utf-8') as file:
+        return json.load(file)
 
 
 def alike():

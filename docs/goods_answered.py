@@ -1,8 +1,8 @@
 #!/usr/bin/env python3
 """Measures how likely goods have an answer: for so many people and things, of how many drawn estates the search ends within the greatest limit.
 
-goods_answered.py            writes both tables, as Markdown and as page/js/odds.js has them; about a minute
-goods_answered.py --check    tells whether page/js/odds.js has them so
+goods_answered.py            writes both tables, as Markdown and to docs/goods_answered.json; about a minute
+goods_answered.py --check    tells whether docs/goods_answered.json has them so
 goods_answered.py --check PEOPLE    the same of only the rows of so many people
 goods_answered.py --check few       the same of a few cells, for the gate: those that end soon
 goods_answered.py --alike           measures people who want much the same, and writes docs/goods_alike.json; two minutes
@@ -20,7 +20,7 @@ import sys
 
 HERE = os.path.dirname(os.path.abspath(__file__))
 PROGRAM = os.environ.get('FAIRSPLIT', os.path.join(HERE, '../crates/fairsplit/out/fairsplit'))
-RULES = os.path.join(HERE, '../page/js/odds.js')
+ANSWERED = os.path.join(HERE, 'goods_answered.json')
 ALIKE = os.path.join(HERE, 'goods_alike.json')
 PEOPLE = [2, 3, 4, 5, 6, 8, 10, 12]
 GOODS = [4, 6, 8, 10, 12, 14, 16, 20, 24]
@@ -105,10 +105,16 @@ def few_right(there):
 
 
 def told():
-    """The tables in page/js/odds.js."""
-    with open(RULES, encoding='utf-8') as file:
-        text = file.read().split('ANSWERED = {')[1].split('};')[0]
-    return {key: json.loads(re.sub(r',\s*\]', ']', re.search(key + r': (\[\[.*?\]\]|\[[^\]]*\]|\d+)', text, re.S)[1])) for key in ('of', 'people', 'goods', 'any', 'stepped')}
+    """The tables in docs/goods_answered.json."""
+    with open(ANSWERED, encoding='utf-8') as file:
+        return json.load(file)
+
+
+def kept(path, rows):
+    """Writes tables into a file."""
+    with open(path, 'w', encoding='utf-8') as file:
+        json.dump({'of': DRAWS, 'people': PEOPLE, 'goods': GOODS, **rows}, file)
+        file.write('\n')
 
 
 def markdown(rows):
@@ -117,12 +123,6 @@ def markdown(rows):
     for n, some, coarse in zip(PEOPLE, rows['any'], rows['stepped']):
         lines.append(f'| {n} | ' + ' | '.join(f'{a}, {b}' for a, b in zip(some, coarse)) + ' |')
     return '\n'.join(lines)
-
-
-def script(rows):
-    """The tables as page/js/odds.js has them."""
-    table = {key: '[' + ', '.join(json.dumps(counts).replace(' ', '') for counts in rows[key]) + ']' for key in ('any', 'stepped')}
-    return f"export const ANSWERED = {{\n  of: {DRAWS},\n  people: {PEOPLE},\n  goods: {GOODS},\n  any: {table['any']},\n  stepped: {table['stepped']},\n}};"
 
 
 def main():
@@ -135,19 +135,18 @@ def main():
             some = [int(word) for word in sys.argv[2:]] or PEOPLE
             have = {key: [there[key][PEOPLE.index(n)] for n in some] for key in ('any', 'stepped')}
             right, what = right and have == measured(some), f'for {", ".join(map(str, some))} people'
-        print(f'goods_answered: page/js/odds.js {"has" if right else "does not have"} what the program answers {what}')
+        print(f'goods_answered: docs/goods_answered.json {"has" if right else "does not have"} what the program answers {what}')
         sys.exit(not right)
     if sys.argv[1:] == ['--alike']:
         rows = measured(PEOPLE, alike=True)
-        with open(ALIKE, 'w', encoding='utf-8') as file:
-            json.dump({'of': DRAWS, 'people': PEOPLE, 'goods': GOODS, **rows}, file)
-            file.write('\n')
+        kept(ALIKE, rows)
         print(markdown(rows))
         return
     if sys.argv[1:]:
         sys.exit(__doc__)
     rows = measured(PEOPLE)
-    print(markdown(rows), script(rows), sep='\n\n')
+    kept(ANSWERED, rows)
+    print(markdown(rows))
 
 
 if __name__ == '__main__':

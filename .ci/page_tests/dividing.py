@@ -2,7 +2,6 @@
 import json
 import os
 import re
-import time
 
 from rig import PAGE
 from tally import TOP, check, program, same
@@ -76,9 +75,9 @@ def divided(p, address, case, is_passed, look_at, shots):
     p.open(address)
     p.one('main .kind, main .row button.main')
     if p.run('return document.documentElement.lang') != 'en':  # files on a disk share what they remember: another part chose this one
+        p.run('document.querySelector("main").firstElementChild.dataset.old = ""')
         p.speak('en')
-        p.until(lambda: p.run('return document.documentElement.lang') == 'en', 20, 'the page does not speak English')
-        time.sleep(0.5)
+        p.until(lambda: p.all('html[lang=en] main > :not([data-old])'), 20, 'the page does not speak English')
     fresh(p)
     p.click(f'.kind.{case["kind"]}')
     written(p, case)
@@ -88,16 +87,15 @@ def divided(p, address, case, is_passed, look_at, shots):
     look_at(p, f'the form of {what}')
     p.press('Go on')
     places(p, case) if case['kind'] == 'fares' and not is_passed else bids(p, case, is_passed)
-    p.one('#verdict', 60)
-    p.until(lambda: p.values('#judges', 'data-by') == ['both'], 60, 'the second check does not end')
-    same(f'the verdict of {what}', p.values('#verdict', 'data-verdict'), ['yes'])
+    p.judged()
+    same(f'the verdict of {what}', [p.values('#verdict', 'data-verdict'), p.values('#judges', 'data-by')], [['yes'], ['both']])
     certificate = program('solve 1', json.dumps(case))
     path = f'{p.profile}/files/division-certificate.txt'
     if os.path.exists(path):
-        os.remove(path)
+        os.remove(path)  # that of an earlier division
     p.run('for (const one of document.querySelectorAll("main details")) one.open = true')
     p.press('Certificate')
-    p.until(lambda: os.path.exists(path) and os.path.getsize(path) > 0, 15, 'the certificate is not saved')
+    p.until(lambda: p.saved('division-certificate.txt'), 15, 'the certificate is not saved')
     same(f'the certificate of {what}', open(path, encoding='utf-8').read(), certificate)
     report = program('report 1', json.dumps(case))
     if case['kind'] != 'goods':
@@ -155,7 +153,7 @@ def kept(p, address):
     p.run('document.querySelectorAll("input[name=how]")[1].click()')
     p.press('Go on')
     bids(p, ESTATE, False)
-    p.one('#verdict', 60)
+    p.judged()
     asks = 'const e = new Event("beforeunload", {cancelable: true}); window.dispatchEvent(e); return e.defaultPrevented'
     check('whoever leaves is asked', p.run(asks))
     for how in ('Change something', 'reload'):
@@ -171,25 +169,77 @@ def kept(p, address):
         same(f'what Ida said after {how}', p.values('.values input.number', 'value'), ['500', '300', '200'])
 
 
-def stopped(p, address):
-    """An estate for which the search finds no end: nothing is lost, and something is left to do; and Stop."""
-    case = {'kind': 'goods', 'title': 'House', 'members': ['Ann', 'Ben', 'Cy', 'Dee'], 'goods': [f'Thing {i}' for i in range(18)], 'bids': HARD}
+# A worker whose first long search finds no end: it tells how far it is, and then that its steps are over, unless it is to hang. Whatever else it is asked is left to
+# the real one.
+ENDLESS = '''const [isHanging] = arguments;
+const Real = window.Worker;
+window.Worker = class {
+  constructor(...words) { this.real = new Real(...words); this.real.onmessage = (event) => this.onmessage(event); }
+  postMessage(task) {
+    if (!task.estate || window.Worker === Real) { this.real.postMessage(task); return; }
+    window.Worker = Real;
+    const owners = task.numbers[2][0].map((_, good) => good % task.numbers[2].length + 1);
+    setTimeout(() => this.onmessage({data: {progress: {steps: 9, owners}}}));
+    if (!isHanging) setTimeout(() => this.onmessage({data: {status: 1, text: "step limit 20000", owners}}));
+  }
+  terminate() { this.real.terminate(); }
+};'''
+HOUSE = {'kind': 'goods', 'title': 'House', 'members': ['Ann', 'Ben', 'Cy', 'Dee'], 'goods': [f'Thing {i}' for i in range(18)], 'bids': HARD}
+
+
+def without_end(p, address, look_at, shots):
+    """An estate for which the specified search finds no end has a result all the same. Where even the longer search finds none, the best division found is told, it
+    can be changed by hand, and the search goes on."""
     p.open(address)
     fresh(p)
     p.click('.kind.goods')
-    written(p, case)
+    written(p, HOUSE)
     p.run('document.querySelectorAll("input[name=how]")[1].click()')
     p.press('Go on')
-    bids(p, case, False)
-    p.has('There is no result', seconds=60)
-    text = p.text()
-    for words in ('Nobody did anything wrong', 'The best division found', 'isn’t proved to be the best', 'Put small items together', 'Round all points and try again'):
-        check(f'{words!r} is told', words in text, text)
-    check('nothing of links or of a tap is told, since there are none', 'link' not in text and 'tap' not in text, text)
-    check('a division is there, and whom it leaves how', len(p.all('#found li')) >= 4 and 'gets' in p.text('#found'), p.text('#found'))
+    p.run(ENDLESS)
+    bids(p, HOUSE, False)
+    p.has('The best division found', seconds=60)
+    for words in ('isn’t proved to be the best', 'Ann gets', 'would rather have'):
+        check(f'{words!r} is told', words in p.text(), p.text())
+    look_at(p, 'the best division found')
+    shots(p, 'C-found')
+    p.run('const s = document.getElementById("owner-0"); s.value = "1"; s.dispatchEvent(new Event("input", {bubbles: true}))')
+    p.press('Search on')
+    p.judged('yes')
+    check('the search that goes on finds the best', 'Checked in this browser' in p.text(), p.text())
+    same('both judge a certificate of the second kind', p.values('#judges', 'data-by'), ['both'])
+    look_at(p, 'the result of a long search')
+    shots(p, 'C-estate')
+    saved_and_checked(p, address)
     p.press('Change something')
     p.press('Go on')
     same('what Ann said is kept', p.values('.values input.number', 'value'), [str(value) for value in HARD[0]])
+
+
+def saved_and_checked(p, address):
+    """The certificate of an estate as a file: the page that checks reads it."""
+    path = f'{p.profile}/files/division-certificate.txt'
+    if os.path.exists(path):
+        os.remove(path)
+    p.run('for (const one of document.querySelectorAll("main details")) one.open = true')
+    p.press('Certificate')
+    text = open(p.until(lambda: p.saved('division-certificate.txt'), 15, 'the certificate is not saved'), encoding='utf-8').read()
+    check('it is one of the second kind', text.startswith('fairsplit 2\nkind goods\nplayers 4\ngoods 18\n'), text[:60])
+    here = p.url()
+    p.open(address.replace('divide.html', 'check.html').replace('#divide', '#check'))
+    for words, verdict in ((text, 'yes'), (text.replace('\nowners ', '\nowners 1 ').replace('\nsteps', ' \nsteps'), 'refused'), (text.replace('tree +', 'tree -'), 'no')):
+        p.one('#text')
+        p.run('document.getElementById("text").value = arguments[0]; document.getElementById("checked").replaceChildren()', words)
+        p.press('Check')
+        p.judged(verdict)
+        same(f'a certificate of the second kind that is {verdict}', p.values('#judges', 'data-by'), ['both'])
+    p.open(here)
+    p.press('Go on')
+    p.press('Go on')
+    for _ in range(3):
+        p.press('Next')
+    p.press('Show the result')
+    p.judged('yes')
 
 
 def alone(rig, olive, ann, ben, look_at, shots):
@@ -204,7 +254,7 @@ def alone(rig, olive, ann, ben, look_at, shots):
     mended(ben, file)
     kept(ben, file)
     kept(ann, page)
-    stopped(ben, file)
+    without_end(ben, file, look_at, shots)
     ben.click('#languages button')
     ben.one('dialog.help[open]')
     ben.click('dialog.help button')
@@ -212,10 +262,8 @@ def alone(rig, olive, ann, ben, look_at, shots):
     same('no host was asked for anything', len(rig.lossy.seen), asked)
     same('the file asked for nothing', [name for name in ann.run('return performance.getEntriesByType("resource").map((e) => e.name)')
                                         if not name.startswith('blob:')], [])
-    path = f'{ann.profile}/files/division.png'
     ann.press('Save as picture')
-    ann.until(lambda: os.path.exists(path) and os.path.getsize(path) > 0, 15, 'no picture is saved')
-    with open(path, 'rb') as picture:
+    with open(ann.until(lambda: ann.saved('division.png'), 15, 'no picture is saved'), 'rb') as picture:
         same('the picture is a PNG', picture.read(8), b'\x89PNG\r\n\x1a\n')
 
 
@@ -256,8 +304,7 @@ def judges(rig, olive, ann, ben):
         p.one('#text')
         p.run('document.getElementById("text").value = arguments[0]', flat)
         p.press('Check')
-        p.one('#verdict', 60)
-        p.until(lambda: p.values('#judges', 'data-by') in (['both'], ['script']), 60, 'the second check does not end')
+        p.judged()
         return p.values('#verdict', 'data-verdict') + p.values('#judges', 'data-by')
     ann.open(rig.url + '#check')
     same('both have judged', checked(ann), ['yes', 'both'])

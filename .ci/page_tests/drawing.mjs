@@ -295,13 +295,13 @@ const NO_PAIRS = ['x', PAIR.replace(' 1/2', ''), PAIR.replace('1/2', '1/0'), PAI
 /** No result of two, and an adjusted winner that is one, that is empty, or that is something else: what is left to do is told with each. */
 async function withoutWinner() {
   const closed = { ...statusOf('attic-for-two', 1), members: ['Person~1', 'Person~2'], bids: [1, 2] };
-  const nothing = { certificate: [409, '{"code":"step_limit","limit":40}'] };
+  const nothing = { certificate: [409, '{"code":"step_limit","limit":40}'], bid: [200, '{"turn":1,"values":[600,400]}'] };
   const empty = ['', '\n', ' '].map((text) => [text, 'sent an empty text']);
   for (const [text, says] of [[PAIR, '700 points'], ...empty, ...NO_PAIRS.map((other) => [other, 'isn’t a text of adjusted winner'])]) {
     const view = await looked({ ...closed, goods: ['Thing~1', 'Thing~2'] }, { ...nothing, winner: [200, text] });
     const what = `no result, and ${JSON.stringify(text)} as adjusted winner`;
     check(`${what}: it is told`, view.text.includes(says), view.text);
-    check(`${what}: what is left`, ['takes more than 40 steps', 'Once more', 'a division of your own'].every((words) => view.text.includes(words)), view.text);
+    check(`${what}: what is left`, ['after 40 steps', 'The organiser’s device can finish it', 'The link with the result'].every((words) => view.text.includes(words)), view.text);
     same(`${what}: names outside of bdi`, view.outside, []);
   }
 }

@@ -32,6 +32,13 @@ VALUES = 'return [...document.querySelectorAll(arguments[0])].map((e) => argumen
 NOT_TOLD = (' status of 4', ' status of 50', 'Failed to load resource', 'Blocked attempt to show a')
 
 
+# Whether all of a view is there: whatever was asked for has come, and so has the verdict of the second check, if a certificate is judged.
+SETTLED = 'return !document.querySelector("main [role=status], main [aria-busy=true]")'
+# The same where a certificate has to be judged, perhaps with this verdict.
+JUDGED = '''const verdict = document.querySelector("#verdict");
+return !!verdict && (arguments[0] ?? verdict.dataset.verdict) === verdict.dataset.verdict && !document.querySelector("main [role=status], main [aria-busy=true]")'''
+PARTIAL = ('.crdownload', '.part', '.wkdownload')  # at the end of the name of a file that is still being saved
+
 SLOWNESS = 3  # how much longer than usual a busy machine may take
 PAUSES = (0.01, 0.1)  # between two looks, in seconds: the first, which doubles, and the longest
 PATIENCE = 300  # seconds for one command of a driver
@@ -121,6 +128,19 @@ class Browser:
                 raise AssertionError(why)
             time.sleep(pause)
             pause = min(2 * pause, longest)
+
+    def settled(self, seconds=60):
+        """Waits until nothing of the view is still to come."""
+        self.until(lambda: self.run(SETTLED), seconds, f'something is still to come: {self.text()!r}')
+
+    def judged(self, verdict=None, seconds=60):
+        """Waits until a certificate has been judged twice, and with this verdict, if one is said."""
+        self.until(lambda: self.run(JUDGED, verdict), seconds, f'nothing was judged twice, or not as {verdict}: {self.text()!r}')
+
+    def saved(self, name):
+        """Where a file of this name has been saved, once all of it is there; nothing before that."""
+        path = os.path.join(self.profile, 'files', name)
+        return os.path.exists(path) and os.path.getsize(path) > 0 and not any(os.path.exists(path + partial) for partial in PARTIAL) and path
 
     def text(self, selector='main'):
         return self.run('return (document.querySelector(arguments[0]) || {innerText: ""}).innerText', selector)

@@ -78,27 +78,11 @@ kept.keep('creation', { body: 'x' });
 same('where a browser keeps nothing, the page does', kept.kept('creation'), { body: 'x' });
 globalThis.localStorage = storage(store);
 
-// An old bid in round numbers, and which one is offered.
+// An old bid, and which one is offered.
 const { earlierBid, offerOld } = await import(`${JS}/old_bid.js`);
-const { roundedTo } = await import(`${JS}/rounding.js`);
-const rounded = (points) => roundedTo(points, 50);
-same('rounded down, and steps to the greatest remainders', [rounded([333, 333, 334]), rounded([1000, 0, 0]), rounded([975, 25, 0]), rounded([25, 25, 950]), rounded([49, 1, 950]), rounded([130, 130, 130, 130, 120, 120, 120, 120])],
-  [[350, 300, 350], [1000, 0, 0], [1000, 0, 0], [50, 0, 950], [50, 0, 950], [150, 150, 150, 150, 100, 100, 100, 100]]);
-let draw = 7;
-const next = (below) => { draw = (draw * 1_103_515_245 + 12_345) % 2_147_483_648; return draw % below; };
-for (let i = 0; i < 500; i++) {
-  const cuts = Array.from({ length: next(23) }, () => next(1001)).sort((a, b) => a - b);
-  const points = [...cuts, 1000].map((cut, at) => cut - (cuts[at - 1] ?? 0));
-  const now = rounded(points);
-  const down = points.map((value) => value - (value % 50));
-  const order = points.map((value, at) => [value % 50, at]).sort((a, b) => b[0] - a[0] || a[1] - b[1]).slice(0, (1000 - down.reduce((a, b) => a + b, 0)) / 50);
-  for (const [, at] of order) down[at] += 50;
-  same(`rounded ${points}`, now, down);
-}
 seeBid(link, round, { turn: 1, values: [500, 300, 200] });
 same('the old bid of the same people and items', [earlierBid({ ...round, id: 9 }), earlierBid({ ...round, id: 7 }), earlierBid({ ...round, id: 9, you: 2 }), earlierBid({ ...round, id: 9, goods: ['Desk', 'Lamp'] }), earlierBid({ ...round, id: 9, members: ['Ann', 'Cy'] })], [[500, 300, 200], null, null, null, null]);
 
-// The same points again are not offered where they are round numbers already: the round would end in the same way.
 const offered = async (values) => {
   seeBid(link, round, { turn: 1, values });
   const place = { earlier: document.createElement('div'), later: document.createElement('div') };
@@ -106,8 +90,7 @@ const offered = async (values) => {
   offerOld(place, { ...round, id: 9 }, () => {});
   return [place.earlier.textContent.includes('Put in my numbers'), place.later.textContent];
 };
-same('numbers that can be rounded are offered', await offered([510, 290, 200]), [true, '']);
-same('round ones are not', await offered([500, 300, 200]), [false, '']);
+same('old numbers are offered', await offered([510, 290, 200]), [true, '']);
 
 // A proposal, and places along one road.
 const { weighed } = await import(`${JS}/proposal.js`);

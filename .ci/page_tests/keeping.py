@@ -154,8 +154,7 @@ def drafts(rig, olive, ann, ben):
     check('when the result is there is told', re.search(r'The result appears here after \w+day.* at \d\d:\d\d: keep this link', ann.text('#stands')), ann.text('#stands'))
     ann.one('#stands + div button')
     ann.press('Add to calendar')
-    path = f'{ann.profile}/files/round-{urls["link-1"].split("#")[1].split(".")[0]}.ics'
-    ann.until(lambda: os.path.exists(path) and os.path.getsize(path) > 0, 15, 'no appointment')
+    path = ann.until(lambda: ann.saved(f'round-{urls["link-1"].split("#")[1].split(".")[0]}.ics'), 15, 'no appointment')
     with open(path, encoding='utf-8', newline='') as file:
         text = file.read()
     check('an appointment with the link', text.startswith('BEGIN:VCALENDAR\r\n') and urls['link-1'] in text.replace('\r\n ', ''), text)
@@ -221,10 +220,9 @@ def unanswered(rig, olive, ann, ben):
 
 
 def passed_limit(rig, olive, ann, ben):
-    """If the step limit was passed: a division all the same, not proved to be the best; a new round with one tap, and in it the old points in round
-    numbers; and where these end in the same way, nothing is promised again."""
-    from rounds import links, look_at, shots
-    # chosen so that rounding has equal remainders
+    """If the server's search passed its limit: the organiser's browser finishes it, and a member takes the result by a link or a file, has it judged, and has their own
+    bid compared; a link that carries something else is told in red."""
+    from rounds import look_at, shots
     bids = [[130, 130, 130, 130, 120, 120, 120, 120], [175, 175, 175, 175, 75, 75, 75, 75]]
     creation = {'kind': 'goods', 'title': 'Many', 'members': ['Ann', 'Ben'], 'goods': ITEMS, 'limit': 40, 'deadline': soon(86400), 'tag': tag()}
     made = api(rig, 'instances', body=creation)
@@ -237,42 +235,98 @@ def passed_limit(rig, olive, ann, ben):
     api(rig, f'instances/{made["id"]}/bids', made['keys'][1], {'turn': 1, 'values': bids[1]})
     api(rig, f'instances/{made["id"]}/close', made['organiser'], {})
     ann.reload()
-    ann.has('takes more than 40 steps', seconds=60)
-    check('a member is told who can make it again', 'The person who created this can make it again' in ann.text() and not ann.enabled('Make the same'), ann.text())
-    same('a member knows only their own points', [ann.values('#points-0-0', 'value'), ann.values('#points-1-0', 'value')], [['130'], ['']])
+    ann.has('after 40 steps', seconds=60)
+    ann.settled()
+    check('a member is told who can finish it', 'The organiser’s device can finish it' in ann.text(), ann.text())
+    same('for a couple the one with a split item comes first', ann.run('return document.querySelector("main details, main .card").id'), 'winner')
     ann.click('#languages button')
     ann.one('dialog.help[open]')
     same('its help is about this', ann.text('#help-title'), 'When there is no result')
     ann.click('dialog.help button')
-    check('nothing is wrong before somebody typed', not ann.text('#proposal-fault'), ann.text('#proposal-fault'))
     olive.open(f'{rig.url}#{made["id"]}.{made["organiser"]}..{creation["tag"]}')
-    olive.has('The best division found', seconds=60)
-    same('for a couple the one with a split item comes first', olive.run('return document.querySelector("main details, main .card").id'), 'winner')
-    proposal(olive, bids)
-    shots(olive, '8-no-answer-organiser')
-    check('nothing is promised', 'far more likely' not in olive.text() and 'though not always' in olive.text(), olive.text())
-    olive.press('Make the same again now')
-    olive.has('Send each person their link', seconds=30)
-    urls = links(olive)
-    check('it is another round', f'#{made["id"]}.' not in urls['link-0'])
-    again(ann, ben, urls, keys)
-    in_circles(rig, olive)
+    olive.judged('yes')
+    same('both judge what the organiser’s browser found', olive.values('#judges', 'data-by'), ['both'])
+    check('the organiser is told what that took', 'it fetched what everyone said' in olive.text('.note'), olive.text('.note'))
+    look(olive, 'a result that the organiser’s browser found', look_at, shots)
+    same('the links are there too', len(olive.all('.links .person')), 2)
+    taken(rig, olive, ann, ben, keys)
 
 
-def again(ann, ben, urls, keys):
-    """The old points in round numbers, known to the browser or by the old link."""
+COPIES = 'navigator.clipboard.writeText = async (text) => { window.copied = text; }'
+PASTE = 'const e = document.getElementById("handed"); e.value = arguments[0]'
+
+
+def taken(rig, olive, ann, ben, keys):
+    """The result on its way from the organiser: by a link, by a file, and by links that aren't it."""
     from rounds import look_at, shots
-    ann.open(urls['link-1'])
-    ann.press('Put in my numbers')
-    ann.has('not sent yet')
-    rounded = ['150', '150', '150', '150', '100', '100', '100', '100']
-    same('rounded, the greatest remainders first', ann.values('.values input.number', 'value'), rounded)
-    check('then and now are shown', 'not sent yet' in ann.text() and '130' in ann.text('table') and '150' in ann.text('table'))
-    look(ann, 'a bid in round numbers', look_at, shots)
-    same('nothing is sent by itself', ann.values('#stands', 'data-turn'), ['0'])
+    olive.run(COPIES)
+    olive.press('Share the result')
+    message = olive.until(lambda: olive.run('return window.copied'), 10, 'the link is not copied')
+    url = message.split('\n')[-1]
+    check(f'the link has {len(url)} signs, and what it carries stands behind its #', len(url) < 4000 and url.startswith(f'{rig.url}#result.'), url)
+    number = keys[0].split('#')[1].split('.')[0]
+    for words, says in (('x', 'not a complete certificate'), (url.replace(f'#result.{number}.', '#result.99.'), 'something else'), (url[:-9], '')):
+        ann.run(PASTE, words)
+        ann.press('Show the result')
+        ann.until(lambda: ann.text('#handed-fault') or ann.all('#verdict'), 20, 'nothing is told')
+        check(f'{words[:20]!r} is no result', not ann.all('.hero') and says in ann.text(), ann.text())
+        if ann.all('#verdict'):
+            ann.reload()
+            ann.one('#handed')
+            ann.settled()
+    ann.run(PASTE, message)
+    ann.press('Show the result')
+    ann.judged('yes')
+    check('it is the member’s own result', ann.text('.hero').startswith('A\nAnn\n') and ann.all('.proof.good'), ann.text('.hero'))
+    check('it is told who made it', 'the organiser’s device finished it' in ann.text('.note'), ann.text('.note'))
+    look(ann, 'a result that was handed on', look_at, shots)
+    ann.reload()
+    ann.judged('yes')
+    same('after a reload it is there', ann.all('#handed'), [])
+    ann.press('Use another link or file')
+    ann.one('#handed')
+    olive.press('Save as a file')
+    path = olive.until(lambda: olive.saved(f'result-{number}.txt'), 15, 'no file is saved')
+    with open(path, encoding='utf-8') as file:
+        words = file.read()
+    forged = words.replace('values 130 130', 'values 120 140')
+    check('the bids stand in the file', forged != words, words[:400])
+    for text in (forged, words):
+        ann.settled()
+        ann.run(PASTE, text)
+        ann.press('Show the result')
+        ann.judged()
+        check('a file is judged, and one with another bid of one’s own is told in red or refused', bool(ann.all('.proof.good')) == (text == words), ann.text())
+        if text != words:
+            ann.reload()
+            ann.one('#handed')
+    ben.open(url)
+    ben.judged('yes')
+    check('whoever has no link of the round sees a check', ben.values('main', 'data-view') == ['check'] and 'Ann' in ben.text('#division'), ben.text())
+    ann.open(url)
+    ann.judged('yes')
+    check('whoever has one sees their own', ann.text('.hero').startswith('A\nAnn\n') and ann.url().startswith(keys[0]), ann.url())
+
+
+def old_numbers(rig, olive, ann, ben):
+    """The same items among the same people once more: the old points are put in, as this browser knows them or by the old link."""
+    from rounds import look_at, shots
+    creation = {'kind': 'goods', 'title': 'Once', 'members': ['Ann', 'Ben'], 'goods': ['Desk', 'Lamp', 'Clock', 'Vase'], 'deadline': soon(86400)}
+    first, second = (api(rig, 'instances', body={**creation, 'tag': tag()}) for _ in range(2))
+    keys, later = ([f'{rig.url}#{made["id"]}.{key}' for key in made['keys']] for made in (first, second))
+    bids = [['410', '290', '200', '100'], ['175', '325', '450', '50']]
+    ann.open(keys[0])
+    typed(ann, bids[0])
     ann.press('Send')
     ann.has('Your answer is saved', '#message')
-    ben.open(urls['link-2'])
+    api(rig, f'instances/{first["id"]}/bids', first['keys'][1], {'turn': 1, 'values': [int(value) for value in bids[1]]})
+    ann.open(later[0])
+    ann.press('Put in my numbers')
+    ann.has('not sent yet')
+    same('the old points', ann.values('.values input.number', 'value'), bids[0])
+    same('nothing is sent by itself', ann.values('#stands', 'data-turn'), ['0'])
+    look(ann, 'a bid with the old points', look_at, shots)
+    ben.open(later[1])
     ben.one('#old-link')
     ben.run('document.getElementById("old-link").closest("details").open = true')
     ben.put('#old-link', 'nothing')
@@ -281,39 +335,9 @@ def again(ann, ben, urls, keys):
     ben.put('#old-link', keys[1])
     ben.press('Put in my numbers')
     ben.has('not sent yet')
-    same('ties go to the first', ben.values('.values input.number', 'value'), ['200', '200', '200', '200', '50', '50', '50', '50'])
+    same('those behind the old link', ben.values('.values input.number', 'value'), bids[1])
     ben.press('Send')
     ben.has('Your answer is saved', '#message')
-
-
-def in_circles(rig, olive):
-    """Round numbers that pass the limit: the same ones are not offered again."""
-    creation = {'kind': 'goods', 'title': 'Round', 'members': ['Ann', 'Ben', 'Cy'], 'goods': ITEMS, 'limit': 40, 'deadline': soon(86400), 'tag': tag()}
-    made = api(rig, 'instances', body=creation)
-    for key in made['keys']:
-        api(rig, f'instances/{made["id"]}/bids', key, {'turn': 1, 'values': [150, 150, 150, 150, 100, 100, 100, 100]})
-    api(rig, f'instances/{made["id"]}/close', made['organiser'], {})
-    olive.open(f'{rig.url}#{made["id"]}.{made["organiser"]}..{creation["tag"]}')
-    olive.has('The best division found', seconds=60)
-    check('round numbers are not offered again', 'would end in the same way' in olive.text() and not olive.enabled('Make the same'), olive.text())
-
-
-def proposal(p, bids):
-    """The organiser's proposal starts from everyone's points and a good division, is looked at, changed, and kept as a draft."""
-    from rounds import look_at, shots
-    same('everyone’s points stand there', [[int(p.values(f'#points-{at}-{g}', 'value')[0]) for g in range(8)] for at in (0, 1)], bids)
-    check('and a division that is not said to be proved', 'isn’t proved to be the best' in p.text() and len(p.all('#found li')) >= 2, p.text())
-    owners = [0, 0, 0, 0, 0, 0, 1, 1]
-    p.run('arguments[0].forEach((at, g) => { document.getElementById(`owner-${g}`).selectedIndex = at; }); document.getElementById("owner-0").dispatchEvent(new Event("input", {bubbles: true}))', owners)
-    text = p.text('#found')
-    for words in ('Ann gets 760 points', 'Ben gets 150 points', 'Ben would rather have what Ann has, by 700 points, whichever item', 'None of it is proved'):
-        check(f'{words!r} is told', words in text, text)
-    look(p, 'a proposal', look_at, shots)
-    p.reload()
-    p.has('The best division found', seconds=60)
-    same('after a reload it is there', [int(value) for value in p.values('[id^=owner-]', 'value')], owners)
-    p.put('#points-0-0', '131')
-    check('what is wrong is told', 'points of Ann must be' in p.text('#proposal-fault'), p.text('#proposal-fault'))
 
 
 def handed_on(rig, olive, ann, ben):
@@ -509,4 +533,4 @@ def slow_network(rig, olive, ann, ben):
     ann.cdp('Network.setCacheDisabled', cacheDisabled=False)
 
 
-KEEPING = [remembered, drafts, unanswered, passed_limit, handed_on, typing, in_sight]
+KEEPING = [remembered, drafts, unanswered, passed_limit, old_numbers, handed_on, typing, in_sight]

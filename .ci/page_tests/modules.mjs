@@ -80,33 +80,11 @@ for (const [shares, whole] of [[[1, 1, 1], 100], [[0, 0], 7], [[800, 450, 300], 
   const out = rules.scale(shares, whole);
   same(`scaled ${shares}`, [out.reduce((a, b) => a + b, 0), out.every((v) => Number.isInteger(v) && v >= 0)], [whole, true]);
 }
-// How often an estate had an answer: what is told was measured, of the size that is named with it.
-const { ANSWERED, oddsFor } = await import(`${JS}/odds.js`);
-const cell = (table, people, goods) => ANSWERED[table][ANSWERED.people.indexOf(people)][ANSWERED.goods.indexOf(goods)];
-same('odds in the table', [oddsFor(2, 8).any, oddsFor(3, 16).stepped], [cell('any', 2, 8), cell('stepped', 3, 16)]);
-same('between two sizes it is the larger one', [oddsFor(5, 15), oddsFor(7, 11)].map(({ people, things }) => [people, things]), [[5, 16], [8, 12]]);
-same('nine people and nine items are no hard size', oddsFor(9, 9), { people: 10, things: 10, any: 18, stepped: 14, of: 20 });
-same('what was not tried is not told', [oddsFor(4, 24), oddsFor(6, 20)].map(({ things }) => things), [20, 16]);
-for (let people = 2; people <= 12; people++) for (let goods = 1; goods <= 24; goods++) {
-  const told = oddsFor(people, goods);
-  same(`odds of ${people} and ${goods}`, [told.any, told.stepped], [cell('any', told.people, told.things), cell('stepped', told.people, told.things)]);
-}
-
 // Sliders, and what is shared out.
 const { sharedOut, sliderOf } = await import(`${JS}/value_fields.js`);
 same('a slider goes as far as five average shares', [sliderOf(false, 1000, 18), sliderOf(false, 1000, 3), sliderOf(false, 10, 18), sliderOf(true, 145_050, 3).most], [{ step: 10, most: 280 }, { step: 10, most: 1000 }, { step: 1, most: 10 }, 146_000]);
 same('of a rent the rest goes to the empty lines', [sharedOut([700, 0, 0], 1000, true), sharedOut([500, 300, 0], 1001, true)], [[700, 150, 150], [500, 300, 201]]);
 same('else all numbers are scaled', [sharedOut([700, 700], 1000, true), sharedOut([200, 300, 0], 1000, false), sharedOut([0, 0], 10, false), sharedOut([333, 333, 333], 1000, false)], [[500, 500], [400, 600, 0], [5, 5], [334, 333, 333]]);
-
-// The best division that a plain search finds, where the server's found no end.
-const { bestFound } = await import(`${JS}/best_found.js`);
-const { weighed } = await import(`${JS}/proposal.js`);
-same('each gets what only they want', bestFound([[600, 400, 0], [0, 300, 700]]), [0, 0, 1]);
-same('everybody gets something', new Set(bestFound([[1000, 0, 0], [900, 60, 40], [900, 50, 50]])).size, 3);
-let drawn = 7;
-const next = (below) => { drawn = (drawn * 1_103_515_245 + 12_345) % 2_147_483_648; return Math.floor(drawn / 65_536) % below; };
-const estate = Array.from({ length: 4 }, () => rules.scale(Array.from({ length: 18 }, () => 1 + next(100)), 1000));
-same('of eighteen items nobody would rather swap once one is taken out', weighed(estate, bestFound(estate)).envies.every(({ isOne }) => isOne), true);
 
 // Letters of people, rooms of a flat in rows, tiles of a share, and what the meter said.
 globalThis.document = { documentElement: {} };

@@ -98,6 +98,7 @@ def colours_forced(rig, olive, ann, ben):
     made, link = a_flat(rig)
 
     def looked(what):
+        ann.settled()
         ann.look(False, forced=True)
         same(f'{what}: what has lost its frame', ann.run(FRAMES, FRAMED), [])
         bars = ann.run(BARS)
@@ -118,7 +119,7 @@ def colours_forced(rig, olive, ann, ben):
     api(rig, f'instances/{made["id"]}/bids', made['keys'][1], {'turn': 1, 'values': [50000, 40000]})
     api(rig, f'instances/{made["id"]}/close', made['organiser'], {})
     ann.reload()
-    ann.one('#verdict[data-verdict=yes]', 60)
+    ann.judged('yes')
     check('a result has bars', looked('a result') >= 2)
 
 
@@ -132,7 +133,8 @@ def words(p, view, seen):
         p.run(OLD, VIEWS[view])
         p.speak(code)
         p.until(lambda: p.all(f'html[lang={code}] :is({VIEWS[view]}):not([data-old])'), 30, f'the view {view} does not speak {code}')
-        text = p.until(lambda: p.run(READABLE) == p.run(READABLE) and p.run(READABLE))
+        p.settled()
+        text = p.run(READABLE)
         seen[code, view] = sum(1 for word in text.split() if is_word(word))
 
 
@@ -201,7 +203,7 @@ def clicks(rig, olive, ann, ben):
     olive.press('Show the result')
     olive.accept()
     olive.clicks += 1
-    olive.one('#verdict', 60)
+    olive.judged()
     ann.open(links[0])
     ann.one(VIEWS['result'], 60)
     words(ann, 'result', seen)

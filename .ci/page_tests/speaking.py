@@ -93,6 +93,7 @@ def spoken(rig, p, code):
         else:
             p.open(rig.url)
         p.one(there, 60)
+        p.settled()
         fits(p, what, code)
         titles[what] = p.run('return document.title')
         if what not in UNHELPED:
@@ -138,7 +139,7 @@ def polish(rig, olive, ann, ben):
             p.has('Twoja odpowiedź jest zapisana.', '#message')
         api(rig, f'instances/{made["id"]}/close', made['organiser'], {})
         p.reload()
-        p.one('#verdict[data-verdict=yes]', 60)
+        p.judged('yes')
         p.has('702 punkty')
         p.has('Pianino')
         p.speak('fr')

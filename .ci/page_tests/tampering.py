@@ -13,7 +13,8 @@ return {verdict: verdict ? verdict.dataset.verdict : null, good: !!verdict && ve
   below: cards.map(said).join("\\n"), hero: [...document.querySelectorAll(".hero h1, .hero .lead")].map((e) => e.innerText).join(" "),
   numbers: Object.fromEntries(["pays", "points", "product", "total", "all", "alone", "way", "flag", "leg"].map((key) => [key, [...document.querySelectorAll(`[data-${key}]`)].sort((a, b) => (a.dataset.member ?? 0) - (b.dataset.member ?? 0)).map((e) => e.dataset[key])])),
   shown: [...document.querySelectorAll("[data-pays], [data-alone], [data-way], [data-flag], [data-leg], [data-total], [data-all], [data-saved]")].map((e) => [Object.entries(e.dataset).find(([key]) => key !== "exact" && key !== "member")[1], e.textContent])}'''
-IS_DRAWN = 'return !!document.querySelector("#verdict, main .box, #stands, h1 + .box")'
+# A note on the server's clock may stand above a result that is still to come.
+IS_DRAWN = 'return !!document.querySelector("#verdict, #stands, main .box")'
 OUTSIDE_OF_BDI = '''const walker = document.createTreeWalker(document.querySelector("main"), NodeFilter.SHOW_TEXT), found = [];
 while (walker.nextNode()) {
   const node = walker.currentNode;
@@ -21,15 +22,13 @@ while (walker.nextNode()) {
 }
 return found'''
 UNSEEN = 'has nothing from before the round closed'
+LATE = 1  # seconds more for each reply
 PEOPLE = ['Ann~', 'Ben~', 'Çağla~']
 FIELDS_OF_NAMES = ('title', 'members', 'rooms', 'goods', 'places', 'you')
 
 
 # The page asks the server for everything again, as after a reload, but its scripts are not loaded again, which takes longest.
 DRAW_AGAIN = 'document.querySelector("main").replaceChildren(); dispatchEvent(new HashChangeEvent("hashchange"))'
-
-
-IS_JUDGED_TWICE = 'return !document.body.textContent.includes("Checking a second time")'
 
 
 def looked(p, url):
@@ -39,7 +38,7 @@ def looked(p, url):
     else:
         p.open(url)
     p.until(lambda: p.run(IS_DRAWN), 30, f'nothing is drawn: {p.text()!r}')
-    p.until(lambda: p.run(IS_JUDGED_TWICE), 60, f'nothing was checked a second time: {p.text()!r}')
+    p.settled()
     return p.run(LOOKED)
 
 
@@ -153,8 +152,21 @@ class Tampered:
         check('whatever stands below is what the server says', 'What the server says' in view['below'], view['below'])
         self.honest_again()
 
+    def late_certificate(self):
+        """A note above a result is there before the result: whoever reads the page waits for both."""
+        said = api(self.rig, self.path, self.keys[0])
+        self.with_reply('', json.dumps({**said, 'bids': said['bids'][:-1]}))
+        self.rig.lossy.slow = LATE
+        try:
+            view = looked(self.ann, self.urls[0])
+        finally:
+            self.rig.lossy.slow = 0
+        same('a result that comes late', (view['verdict'], view['below']), ('yes', self.honest['ann']['below']))
+        self.honest_again()
+
     def play(self):
         try:
+            self.late_certificate()
             self.said_otherwise()
             self.other_certificates()
             self.no_certificate()
@@ -210,6 +222,8 @@ def tampered_fares(rig, olive, ann, ben):
 
 
 READ = 'return navigator.clipboard.readText()'
+# What a button says for three seconds once it has done something stays, so that a slow machine sees it too.
+STAYS = 'const { setTimeout } = window; window.setTimeout = (done, after) => (after === 3000 ? 0 : setTimeout(done, after))'
 
 
 def copied(rig, olive, ann, ben):
@@ -219,6 +233,7 @@ def copied(rig, olive, ann, ben):
     olive.cdp('Browser.grantPermissions', origin='/'.join(rig.url.split('/')[:3]), permissions=['clipboardReadWrite', 'clipboardSanitizedWrite'])
     olive.open(f'{rig.url}#{made["id"]}.{made["organiser"]}.EUR.{flat["tag"]}')
     olive.one('#link-0')
+    olive.run(STAYS)
     bare = [f'{rig.url}#{made["id"]}.{key}.EUR' for key in made['keys']] + [olive.url()]
     got, messages = [], []
     for line in range(len(bare)):

@@ -10,14 +10,14 @@ TOP = os.path.realpath(os.path.join(os.path.dirname(os.path.abspath(__file__)), 
 PAGE = os.path.join(TOP, 'page')
 # The limits of page/js/rules.js, by the names of their constants.
 LISTED = {'name': 'LONGEST_NAME', 'members': 'MOST_MEMBERS', 'riders': 'MOST_RIDERS', 'goods': 'MOST_GOODS', 'places': 'MOST_PLACES', 'rent': 'MOST_RENT', 'cost': 'MOST_FARE_CENTS',
-          'steps': 'MOST_STEPS', 'points': 'WHOLE_POINTS', 'turns': 'MOST_TURNS', 'certificate': 'MOST_BYTES', 'digits': 'MOST_DIGITS', 'denominator': 'MOST_PRINTED_DENOMINATOR'}
+          'steps': 'MOST_STEPS', 'estateSteps': 'MOST_ESTATE_STEPS', 'points': 'WHOLE_POINTS', 'turns': 'MOST_TURNS', 'certificate': 'MOST_BYTES', 'digits': 'MOST_DIGITS', 'denominator': 'MOST_PRINTED_DENOMINATOR'}
 UNLOADED = ('try', 'make', 'help_pages.py', 'single_file.py', 'policy.txt')  # no browser loads these
 OF_FILES = ('check.html', 'divide.html', 'js/alone.js', 'js/divide_alone.js', 'js/carried_alone.js', 'js/more_style_alone.js')  # the files that people can save, and what is only in them
 # Loaded only if something is checked, or divided without a server. Counted apart, like judge/ and the languages.
-OF_CHECKS = [f'js/{name}.js' for name in ('carried', 'check', 'judges', 'judge_task', 'judge_worker', 'module_of', 'verdict')]
-OF_DIVISIONS = [f'js/{name}.js' for name in ('demo', 'divide', 'divide_form', 'rounding', 'solver', 'solve_task', 'solve_worker')]
+OF_CHECKS = [f'js/{name}.js' for name in ('carried', 'check', 'check_estate', 'judges', 'judge_task', 'judge_worker', 'module_of', 'pairs', 'verdict')]
+OF_DIVISIONS = [f'js/{name}.js' for name in ('demo', 'divide', 'divide_form', 'estate', 'finish', 'handed', 'handed_view', 'proposal', 'solver', 'solve_task', 'solve_worker')]
 MOST_BYTES = 250_000
-MOST_APART = 60_000
+MOST_APART = 80_000
 MOST_FOR_A_BID = 30_000
 MOST_OF_A_FIRST_VIEW = 83_700  # not compressed, with what a bid loads behind its form
 MOST_OF_A_PICTURE = 60_000
@@ -256,32 +256,6 @@ def compare_hosts(texts):
         check(f'{name} does not serve /hosts.json', re.search(r'^[^#]*/hosts\.json', text_of(name), re.M))
 
 
-# What ORGANISERS.md says about sizes: for so many people and items, the least and the most that had an answer, first with any points.
-SIZES = [
-    ('2 to 6 people, up to 10 items', range(2, 7), range(4, 11)), ('2 to 6 people, 12 items', range(2, 7), [12]), ('2 to 6 people, 14 items', range(2, 7), [14]),
-    ('2 people, 24 items', [2], [24]), ('3 to 6 people, 20 items', range(3, 7), [20]),
-]
-
-
-def compare_sizes():
-    """The table of sizes in ORGANISERS.md is a short form of the one in the page."""
-    table = texts_of_table(text_of('page/js/odds.js').split('ANSWERED = {')[1].split('};')[0])
-    told = text_of('docs/ORGANISERS.md')
-    cells = lambda key, people, things: [some for n, row in zip(table['people'], table[key]) for m, some in zip(table['goods'], row) if n in people and m in things]
-    span = lambda found: f'{min(found)} to {max(found)}' if min(found) < max(found) else f'{found[0]}'
-    for words, people, things in SIZES:
-        row = f"| {words} | {span(cells('any', people, things))} | {span(cells('stepped', people, things))} |"
-        check(f'ORGANISERS lacks the row {row}', row in told)
-    none = [cells(key, [people], things) for key in ('any', 'stepped') for people, things in ((10, [8]), (12, [6, 8, 10]))]
-    check('ORGANISERS has another row of sizes without an answer', '| 10 people, 8 items; 12 people, 6 to 10 items | 0 | 0 |' in told and not any(map(sum, none)))
-    numbers = [re.findall(r'\d+', re.search(opening + r'.*?\n\n', text_of(name), re.S)[0]) for name, opening in (('docs/ORGANISERS.md', r'\| of 20 '), ('docs/ORGANISERS.de.md', r'\| von 20 '))]
-    check('the table of sizes has other numbers in German', numbers[0] == numbers[1])
-
-
-def texts_of_table(text):
-    return {key: json.loads(re.search(key + r': (\[\[.*?\]\]|\[[^\]]*\])', text, re.S)[1]) for key in ('people', 'goods', 'any', 'stepped')}
-
-
 def luminance(red, green, blue):
     linear = [part / 12.92 if part <= 0.04045 else ((part + 0.055) / 1.055) ** 2.4 for part in (red, green, blue)]
     return sum(part * weight for part, weight in zip(linear, (0.2126, 0.7152, 0.0722)))
@@ -345,7 +319,6 @@ def main():
     words = compare_words(texts)
     compare_limits(texts, words)
     compare_hosts(texts)
-    compare_sizes()
     measure_people()
     outside_of_proof()
     check('page/make would write other files', subprocess.run([sys.executable, os.path.join(PAGE, 'make'), '--check', 'check.html', 'divide.html'], check=False).returncode == 0)

@@ -1,11 +1,12 @@
 // The second checker of certificates by the rules of docs/CERTIFICATES.md, with exact arithmetic. Pure, and not proved:
 // the proved one is in judge/, and shares no code with it. Each rule is [its sentence in words.js, whether it holds].
 import { frac, same, total } from './fractions.js';
+import { ESTATE, walkEstate } from './check_estate.js';
+import { YIELDS, bound, compare, comparePairs, pairOf, range, sumOf } from './pairs.js';
 import { LIMITS } from './rules.js';
 
 const NUMBER = new RegExp(`^(0|-?[1-9]\\d{0,${LIMITS.digits - 1}})$`);
 const sum = (list) => list.reduce((a, b) => a + b, 0n);
-const range = (n, from = 0) => Array.from({ length: n }, (_, i) => i + from);
 const power = (base, exponent) => BigInt(base) ** BigInt(exponent);
 /** The sets of riders but the empty one, each as its bits, and the riders of one. */
 const setsOf = (n) => range((1 << n) - 1, 1);
@@ -13,13 +14,6 @@ const ridersOf = (set, n) => range(n).filter((r) => set & (1 << r));
 const isAtMost = (a, b) => a.n * b.d <= b.n * a.d;
 const rising = (list, most) => list.every((x, i) => x >= 1n && x <= most && (i === 0 || list[i - 1] < x));
 const isOrder = (list) => [...list].sort((a, b) => (a < b ? -1 : 1)).every((x, i) => x === BigInt(i + 1));
-/** Lists of small numbers in the order of dictionaries: below 0, 0 or above. */
-function compare(a, b) {
-  const i = a.findIndex((x, at) => x !== b[at]);
-  return i < 0 ? 0 : a[i] - b[i];
-}
-/** A page can go on after so many marks of a tree. */
-const YIELDS = 20_000;
 
 class BadLine extends Error { constructor(line) { super(`line ${line}`); this.line = line; } }
 
@@ -50,12 +44,16 @@ class Lines {
     return isValid ? got : this.bad();
   }
 
-  words(word, n) {
+  words(word, least, most = least) {
     const [first, ...rest] = this.next().split(' ');
-    return first === word && rest.length === n ? rest : this.bad();
+    return first === word && rest.length >= least && rest.length <= most ? rest : this.bad();
   }
 
   row(word, n) { return this.words(word, n).map((one) => this.number(one)); }
+  /** Whether the next line begins with a word that has numbers behind it. */
+  begins(word) { return this.lines[this.at]?.startsWith(`${word} `); }
+  /** No number, or up to so many. */
+  between(word, most) { return this.words(word, 0, most).map((one) => this.number(one)); }
   rows(word, n, m) { return range(n).map(() => this.row(word, m)); }
   fractions(word, n) { return this.words(word, n).map((one) => this.fraction(one)); }
   one(word) { return this.row(word, 1)[0]; }
@@ -74,6 +72,33 @@ class Lines {
   }
 }
 
+/** The lines of items up to the steps, which both kinds of text have. */
+function shared(lines) {
+  const n = lines.count('players', LIMITS.members[1]);
+  const g = lines.count('goods', LIMITS.goods[1]);
+  return { n, g, limit: lines.one('limit'), who: lines.row('who', n), values: lines.rows('values', n, g),
+    owners: lines.row('owners', g), steps: lines.one('steps') };
+}
+
+/** The lines of weights and of prices: { word, numbers }. */
+function given(lines, n) {
+  const all = [];
+  for (;;) {
+    const word = ['weights', 'prices'].find((one) => lines.begins(one));
+    if (!word) return all;
+    all.push({ word, numbers: lines.row(word, word === 'prices' ? 2 * n : n) });
+  }
+}
+
+/** What a text of the second kind says: items whose search closes what it leaves by weights, prices and twins. */
+function estate(lines) {
+  const said = shared(lines);
+  const short = lines.between('short', said.n);
+  const last = String.fromCharCode(64 + said.n);
+  return { ...said, isEstate: true, short, given: given(lines, said.n),
+    tree: lines.match(new RegExp(`^tree ([-+=!~A-${last}]+)$`)) };
+}
+
 /** What the lines between the kind and the end say. */
 const READS = {
   rent(lines) {
@@ -82,12 +107,7 @@ const READS = {
     for (const word of ['rooms', 'left', 'right', 'walks', 'ranks']) said[word] = lines.row(word, n);
     return { ...said, prices: lines.fractions('prices', n) };
   },
-  goods(lines) {
-    const n = lines.count('players', LIMITS.members[1]);
-    const g = lines.count('goods', LIMITS.goods[1]);
-    return { n, g, limit: lines.one('limit'), who: lines.row('who', n), values: lines.rows('values', n, g),
-      owners: lines.row('owners', g), steps: lines.one('steps'), tree: lines.match(/^tree ([-+=]*)$/) };
-  },
+  goods: (lines) => ({ ...shared(lines), tree: lines.match(/^tree ([-+=]*)$/) }),
   fares(lines) {
     const n = lines.count('riders', LIMITS.riders[1]);
     const places = lines.count('places', LIMITS.places[1]);
@@ -101,13 +121,16 @@ const READS = {
   },
 };
 
+/** Whether a text says that it is one of the second kind. */
+export const isEstate = (text) => text.startsWith('fairsplit 2\n');
+
 /** Reads a certificate: what its lines say, as BigInts. Throws at the first line that is not valid. */
 export function read(text) {
   if (new TextEncoder().encode(text).length > LIMITS.certificate) throw new BadLine('too long');
   const lines = new Lines(text);
-  lines.literal('fairsplit 1');
-  const kind = lines.match(/^kind (rent|goods|fares)$/);
-  const said = { kind, ...READS[kind](lines) };
+  const isSecond = lines.match(/^fairsplit ([12])$/) === '2';
+  const kind = lines.match(isSecond ? /^kind (goods)$/ : /^kind (rent|goods|fares)$/);
+  const said = { kind, ...(isSecond ? estate : READS[kind])(lines) };
   lines.end();
   return said;
 }
@@ -218,38 +241,15 @@ function fareCase(said) {
   return c;
 }
 
-/** A pair: how many have points at all, and the product of their points. */
-function pairOf(points) {
-  const some = points.filter((p) => p > 0);
-  return { count: some.length, product: some.reduce((a, p) => a * BigInt(p), 1n) };
-}
-const comparePairs = (a, b) => a.count - b.count || (a.product < b.product ? -1 : a.product > b.product ? 1 : 0);
-const sum0 = (list) => { let all = 0; for (const x of list) all += x; return all; };
-
-/** The greatest pair of whole points between low and high with a sum of at most top. */
-function bound(low, high, top) {
-  let left = top - sum0(low);
-  const open = low.map((l, i) => i).filter((i) => high[i] > 0);
-  const empty = open.filter((i) => low[i] === 0);
-  if (empty.length > left) return pairOf([...low.filter((l) => l > 0), ...Array(left).fill(1)]);
-  left -= empty.length;
-  const lows = open.map((i) => Math.max(low[i], 1)), highs = open.map((i) => high[i]);
-  const filled = (level) => lows.map((l, i) => Math.min(highs[i], Math.max(l, level)));
-  const room = sum0(lows) + left;
-  let from = 1, to = LIMITS.points + 1; // the greatest level that fits; nobody has more points
-  while (to - from > 1) { const mid = (from + to) >> 1; if (sum0(filled(mid)) <= room) from = mid; else to = mid; }
-  const points = filled(from);
-  left = room - sum0(points);
-  for (let i = 0; i < points.length && left > 0; i++) {
-    if (points[i] === from && highs[i] > from) { points[i]++; left--; }
-  }
-  return pairOf(points);
-}
-
-const GOODS = [
-  ['rules.goods.1', ({ limit, who, values }) => limit >= 1n && limit <= LIMITS.steps && rising(who, LIMITS.members[1])
+/** The first two rules of items, whose search may take so many steps. */
+const itemRules = (most) => [
+  ['rules.goods.1', ({ limit, who, values }) => limit >= 1n && limit <= most && rising(who, LIMITS.members[1])
     && values.every((row) => row.every((v) => v >= 0n) && sum(row) === BigInt(LIMITS.points))],
   ['rules.goods.2', ({ owners, n }) => owners.every((o) => o >= 1n && o <= BigInt(n))],
+];
+
+const GOODS = [
+  ...itemRules(LIMITS.steps),
   ['rules.goods.3', ({ walk }) => walk.tree],
   ['rules.goods.4', ({ walk }) => walk.tree && walk.cuts],
   ['rules.goods.5', ({ walk }) => walk.tree && walk.leaves],
@@ -266,8 +266,8 @@ class Walk {
     const have = Array(n).fill(0);
     answer.forEach((owner, i) => { have[owner] += points[owner][order[i]]; });
     // what lies behind a depth: for each player all points still to come, and the sum of the greatest
-    const tails = range(g + 1).map((depth) => points.map((row) => sum0(order.slice(depth).map((good) => row[good]))));
-    const tops = range(g + 1).map((depth) => sum0(order.slice(depth).map((good) => greatest[good])));
+    const tails = range(g + 1).map((depth) => points.map((row) => sumOf(order.slice(depth).map((good) => row[good]))));
+    const tops = range(g + 1).map((depth) => sumOf(order.slice(depth).map((good) => greatest[good])));
     const seen = { tree: true, cuts: true, leaves: true, answer: true, marks: tree.length, order, pair: pairOf(have) };
     Object.assign(this, { n, g, points, order, answer, tails, tops, seen });
     Object.assign(this, { prefix: [], low: Array(n).fill(0), isOver: false }); // over: the whole tree was read
@@ -294,7 +294,7 @@ class Walk {
   best() {
     const { low, prefix: { length } } = this;
     if (this.isWhole) return pairOf(low);
-    return bound(low, low.map((l, i) => l + this.tails[length][i]), sum0(low) + this.tops[length]);
+    return bound(low, low.map((l, i) => l + this.tails[length][i]), sumOf(low) + this.tops[length]);
   }
 
   /** A mark where nothing better may lie. */
@@ -341,7 +341,12 @@ function goodsCase(said, walk) {
   return { ...said, walk, facts };
 }
 
-const CASES = { rent: [RENT, rentCase], goods: [GOODS, goodsCase], fares: [FARES, fareCase] };
+/** Of each kind of text its rules, the case that they look at, and the walk through its tree. */
+const CASES = {
+  rent: [RENT, rentCase], fares: [FARES, fareCase],
+  goods: [GOODS, goodsCase, walkTree],
+  estate: [[...itemRules(LIMITS.estateSteps), ...ESTATE], goodsCase, walkEstate],
+};
 
 /** Judges a certificate: a generator that yields while it walks a long tree, and returns
     { verdict: 'yes' | 'no' | 'refused', rule, line, rules: [[text, holds]], facts: [[text, holds]] },
@@ -352,9 +357,9 @@ export function* judging(text) {
     if (!(fault instanceof BadLine)) throw fault;
     return { verdict: 'refused', line: fault.line, rules: [], facts: [] };
   }
-  const [table, caseOf] = CASES[said.kind];
-  const isWalked = said.kind === 'goods' && table[0][1](said) && table[1][1](said);
-  const c = caseOf(said, isWalked ? yield* walkTree(said) : null);
+  const [table, caseOf, walkOf] = CASES[said.isEstate ? 'estate' : said.kind];
+  const isWalked = walkOf && table[0][1](said) && table[1][1](said);
+  const c = caseOf(said, isWalked ? yield* walkOf(said) : null);
   const rules = [];
   for (const [says, holds] of table) {
     const ok = Boolean(holds(c));

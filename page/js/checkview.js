@@ -63,11 +63,11 @@ async function answer(out, typed) {
   await checks.first;
 }
 
-/** The view. `alone` is the file that is handed out, which has no other one. */
-export function checkView(root, alone = false) {
+/** The view. `alone` is the file that is handed out, which has no other one; `words` are checked at once. */
+export function checkView(root, alone = false, words = '') {
   const area = h('textarea', {
     id: 'text', rows: 12, spellcheck: 'false', autocomplete: 'off', placeholder: 'fairsplit 1\nkind rent\n…',
-  });
+    value: words });
   const out = h('div', { id: 'checked' });
   const button = action({ class: 'main', click: run }, t('check.button'));
   async function run() {
@@ -86,4 +86,5 @@ export function checkView(root, alone = false) {
     h('div', { class: 'card' }, h('label', { for: 'text' }, t('check.label')), area,
       h('p', { class: 'row' }, button, h('label', { class: 'file' }, t('check.open'), ' ', pick)),
       !alone && p(h('a', { href: 'check.html', download: 'fairsplit-check.html' }, t('check.file')))), out);
+  if (words) run();
 }

@@ -17,12 +17,13 @@ const clockAhead = ({ bids, members, deadline }) => bids.length < members.length
 export async function showClosed(root, { title }, view) {
   const { link, round, alive } = view;
   const body = h('div', {}, heading(t('wait')));
+  const below = h('div', { class: 'unprinted' });
   await tableStyle();
   turn(root, h('p', { class: 'eyebrow' }, name(String(title)), round.you === 0 && [' · ', t('youOrganise')]),
-    clockAhead(round), body);
+    clockAhead(round), body, below);
   seeClose(link, hostNow());
   rememberClose(link);
   bidDraft(link).drop(); // it can't be sent any more
   await result(body, { ...view, again: () => again({ ...round, currency: link.currency }) });
-  if (link.tag && alive()) await links(body.appendChild(h('div', { class: 'unprinted' })), view);
+  if (link.tag && alive()) await links(below, view);
 }

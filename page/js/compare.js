@@ -54,6 +54,14 @@ export function differences(seen, face, said) {
     ...otherAmounts(seen, said), ...otherBid(seen, said)];
 }
 
+/** Where a certificate that somebody handed on is not one of a round: `bid` is what the server has of whoever looks, or
+    null. */
+export function strange(said, { bids, you }, bid) {
+  const others = equal(peopleOf(said), bids) ? [] : [{ what: 'others' }];
+  const listed = listedBid(said, you);
+  return !bid || equal(bid, listed) ? others : [...others, { what: 'held', then: bid, now: listed }];
+}
+
 /** How a certificate that holds is to be read: with which names, and what this browser saw otherwise before the close.
     `face` is what the server says now, and `numbered` makes names where there are none. */
 export function held(said, face, seen, numbered) {

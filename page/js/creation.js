@@ -64,10 +64,6 @@ export async function make(body, { currency = '', remembers = false, at = '', in
   }
 }
 
-/** Makes a round like an old one, which ends at another time. */
-export const makeAgain = (round, until, how) => (
-  make(creationOf({ ...round, deadline: Math.floor(until / 1000) }, newTag()), how));
-
 /** A creation that was sent and not answered, to be sent again; null where there is none. */
 export function pending() {
   if (!kept('creation')) return null;

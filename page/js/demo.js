@@ -5,10 +5,12 @@ import { bar, colour, who } from './draw.js';
 import { learnMore, locale, t, text } from './language.js';
 import { money, setCurrency } from './money.js';
 import { currencyOf } from './currencies.js';
-import { LIMITS, STEP, scale } from './rules.js';
+import { LIMITS, scale } from './rules.js';
 import { read } from './check.js';
 import { linesOf } from './poster.js';
 import { Solver } from './solver.js';
+
+const STEP = 50; // points by which a slider moves
 
 /** The invented cases. Names need no translation, but those of things are in the words. */
 const CASES = {
@@ -92,6 +94,7 @@ class Demo {
   async solve() {
     if (this.isBusy) { this.isStale = true; return; }
     this.isBusy = true;
+    this.out.setAttribute('aria-busy', 'true');
     const made = structuredClone(this.made);
     const answer = await this.solver.solve(made);
     this.isBusy = false;
@@ -100,6 +103,7 @@ class Demo {
   }
 
   show({ status, text: written, says }) {
+    this.out.removeAttribute('aria-busy');
     if (status !== 0 || says !== 'yes') {
       fill(this.out, p(t(status === null ? 'divide.noModule' : 'demo.none')));
       return;

@@ -2,8 +2,8 @@
 // proved solver, and is shown only when the proved judge says yes to it.
 import { action, announce, box, fill, h, heading, name, p } from './dom.js';
 import { download } from './parts.js';
-import { entitle, number, t, text } from './language.js';
-import { LIMITS, STEP, THINGS } from './rules.js';
+import { entitle, t, text } from './language.js';
+import { THINGS } from './rules.js';
 import { art } from './art.js';
 import { icon } from './draw.js';
 import { judge } from './judges.js';
@@ -11,14 +11,14 @@ import { elsewhere, noYes, proofLine, secondCheck, showVerdicts, tellBranches } 
 import { hero, picture } from './picture.js';
 import { pictureButton } from './poster.js';
 import { Solver } from './solver.js';
-import { divideDraft, proposalDraft } from './store.js';
+import { divideDraft } from './store.js';
+import { Estate } from './estate.js';
 import { Proposal } from './proposal.js';
 import { DivideForm } from './divide_form.js';
 import { ValueFields } from './value_fields.js';
 import { PlaceField } from './place_field.js';
 import { winnerCard } from './picture_goods.js';
 import { adjustedWinner } from './shares.js';
-import { roundedTo } from './rounding.js';
 
 const FILE = 'division';
 
@@ -169,52 +169,60 @@ class Division {
     announce(this.root.querySelector('.box').textContent);
   }
 
-  async solve(bids = this.bids) {
+  async solve() {
+    const title = heading(t('divide.working'));
     const stop = () => { this.isStopped = true; this.solver.stop(); };
     this.isStopped = false;
-    this.again = () => this.solve(bids);
-    this.draw(heading(t('divide.working')), h('p', { class: 'row' }, action({ click: stop }, t('divide.stop'))));
-    const answer = await this.solver.solve({ ...this.made, bids });
-    if (!this.root.querySelector('h1')?.isConnected) return;
-    if (this.isStopped) this.stopped(bids);
-    else this.answered(answer, bids);
+    this.again = () => this.solve();
+    this.draw(title, h('p', { class: 'row' }, action({ click: stop }, t('divide.stop'))));
+    const answer = await this.solver.solve({ ...this.made, bids: this.bids });
+    if (!title.isConnected) return;
+    if (this.isStopped) this.stopped();
+    else if (answer.status === 1) this.search(new Estate({ ...this.made, bids: this.bids }), (one) => one.search());
+    else this.answered(answer);
+  }
+
+  /** The specified search has passed its limit: another one goes on, which is stronger. */
+  async search(estate, begin) {
+    const title = heading();
+    const draw = () => { fill(title, t('divide.working')); this.draw(title, estate.parts); };
+    this.again = draw;
+    draw();
+    const answer = await begin(estate);
+    if (!title.isConnected) return;
+    if (answer.status === 1 || (estate.isStopped && estate.owners)) this.found(estate);
+    else if (estate.isStopped) this.stopped();
+    else this.answered(answer);
   }
 
   /** Somebody stopped it. */
-  stopped(bids) {
-    this.again = () => this.stopped(bids);
+  stopped() {
+    this.again = () => this.stopped();
     this.draw(heading(t('divide.stoppedTitle')), h('p', { class: 'lead' }, t('divide.stopped')),
-      h('p', { class: 'row' }, action({ class: 'main', click: () => this.solve(bids) }, t('again')), this.anew()));
+      h('p', { class: 'row' }, action({ class: 'main', click: () => this.solve() }, t('again')), this.anew()));
   }
 
-  answered({ status, text: written, says }, bids) {
+  answered({ status, text: written, says }) {
     if (status === null) this.fault(t('divide.noModule'));
-    else if (status === 1) this.endless(bids);
     else if (status !== 0) this.fault(t('divide.refused', { what: written }));
     else if (says !== 'yes') this.fault(t('divide.unproved', { says }));
     else this.show(written);
   }
 
-  /** The search found no end: what each said is kept, and can be rounded; for two there is another way. */
-  endless(bids) {
-    this.again = () => this.endless(bids);
-    const { made } = this;
+  /** Nobody can say yet which division is the best: the best one found, and a longer search. For two there is another
+      way. */
+  found(estate) {
+    this.again = () => this.found(estate);
+    const { made, bids } = this;
     const who = made.members.map((_, i) => i + 1).filter((m) => bids[m - 1] !== null);
-    const round = bids.map((bid) => bid && roundedTo(bid, STEP));
-    const isRound = JSON.stringify(round) === JSON.stringify(bids);
+    const points = who.map((m) => bids[m - 1]);
     const words = h('p', { class: 'hint' }, t('winner.computed'));
     const both = who.length === 2 && winnerCard({ members: made.members, things: made.goods, who,
-      ...adjustedWinner(who.map((m) => bids[m - 1].map(BigInt))) }, [words], true);
-    this.draw(heading(t('none.title')), h('p', { class: 'lead' }, t('none.limit', { limit: number(LIMITS.steps) })),
-      both, this.proposal(bids, who), h('h2', {}, t('none.left')), p(t(isRound ? 'none.isRound' : 'none.canRound')),
-      p(t('form.fewer')), h('p', { class: 'row' },
-        !isRound && action({ click: () => this.solve(round) }, t('none.roundNow')), this.anew()));
-  }
-
-  /** The best division that a plain search finds, to be changed by hand. */
-  proposal(bids, who) {
-    const round = { ...this.made, bids: who };
-    return new Proposal(round, who.map((m) => bids[m - 1]), proposalDraft({ id: 'here', key: '' })).drawn();
+      ...adjustedWinner(points.map((row) => row.map(BigInt))) }, [words], true);
+    const on = estate.canGoOn && action({ class: 'main', click: () => this.search(estate, (one) => one.more()) },
+      t('none.searchOn'));
+    this.draw(heading(t('none.bestFound')), both, new Proposal({ people: who.map((m) => made.members[m - 1]),
+      goods: made.goods, points, owners: estate.owners.map((owner) => owner - 1) }).drawn(on, this.anew()));
   }
 
   /** The division, as in a round. */

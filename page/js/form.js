@@ -2,8 +2,7 @@
 // (divide_form.js) are both this one, with a part of their own.
 import { announce, box, byId, faultLine, field, fill, h } from './dom.js';
 import { entitle, locale, names, t, text } from './language.js';
-import { CHIPS, LIMITS, STEP, THINGS } from './rules.js';
-import { oddsFor } from './odds.js';
+import { CHIPS, LIMITS, THINGS } from './rules.js';
 import { doubles, rowsThatCount } from './faults.js';
 import { showFaults, wrongFields } from './form_faults.js';
 import { plain, setCurrency } from './money.js';
@@ -14,13 +13,6 @@ import { Ways } from './ways.js';
 
 const SAMPLE = 145_050;
 const shown = (value) => (value === undefined ? '' : typeof value === 'number' ? plain(value) : value);
-
-/** How often the search for the best division found an answer for about so many, where that is not always. */
-function chanceOf(people, things) {
-  const odds = { ...oddsFor(people, things), step: STEP };
-  if (odds.any === odds.of) return null;
-  return h('p', { class: odds.stepped ? 'box note' : 'box bad' }, t('form.chance', odds), ' ', t('form.fewer'));
-}
 
 export class SplitForm {
   /** `start` is what the form held before; `words` are those on the button. */
@@ -35,7 +27,6 @@ export class SplitForm {
     this.hasChips = start.hasChips ?? false;
     this.lists(start);
     this.ways = kind === 'fares' ? new Ways({ isBoth: true, ...start.ways }, this.things, check) : null;
-    this.chance = h('div', { id: 'chance' });
     this.summary = h('div', { id: 'summary' });
     this.notes = h('div', { 'aria-live': 'polite' });
     this.button = h('button', { class: 'main' }, t(words));
@@ -91,7 +82,7 @@ export class SplitForm {
     this.group(this.people), this.group(this.things, t(`kinds.${kind}.thingsHint`)),
     kind === 'rent' && this.amounts('rent', t('form.rentHint', { example: plain(SAMPLE) })),
     kind === 'fares' && [this.amounts('flag', t('form.flagHint')), this.ways.set],
-    kind === 'goods' && [this.chance, this.points()],
+    kind === 'goods' && this.points(),
     more, this.notes, h('p', { class: 'row' }, this.button));
   }
 
@@ -169,8 +160,6 @@ export class SplitForm {
     const twice = [...doubles(this.people.names), ...doubles(this.things.names)];
     fill(this.notes, twice.length > 0 && box('note', t('form.twice', { names: names(twice) })));
     this.summarise(this.isSent ? wrong : new Map());
-    const { members, things } = read.rows;
-    if (this.kind === 'goods') fill(this.chance, chanceOf(members.length, things.length));
     return wrong;
   }
 

@@ -1,12 +1,13 @@
 // The two checks of a certificate, one after the other: by the proved judge, which takes a moment, and then by the
 // page's own checker, which takes seconds for a long tree.
-import { judging, lineOf } from './check.js';
+import { isEstate, judging, lineOf } from './check.js';
+import { loadEstates } from '../judge/estates.js';
 import { loadJudge } from '../judge/judge.js';
 
 /** What the proved judge says. Where it can't run, nothing. */
 async function provedVerdict(certificate, module) {
   try {
-    const judge = await loadJudge(async () => module);
+    const judge = await (isEstate(certificate) ? loadEstates : loadJudge)(async () => module);
     const { line } = await judge.check(certificate);
     return { proved: line, isLowered: judge.isLowered };
   } catch { return {}; }

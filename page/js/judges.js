@@ -2,10 +2,11 @@
 // script.
 import { startWorker } from './carried.js';
 import { moduleOf } from './module_of.js';
+import { isEstate } from './check.js';
 import { linesOf, together } from './verdict.js';
 
-/** The module of the proved judge; null where none runs, or it doesn't come. */
-const judgeModule = () => moduleOf('judge').catch(() => null);
+/** The module of the proved judge of a certificate; null where none runs, or it doesn't come. */
+const judgeModule = (certificate) => moduleOf(isEstate(certificate) ? 'estate' : 'judge').catch(() => null);
 
 /** The task in a worker. */
 function inWorker(task, heard) {
@@ -41,7 +42,8 @@ export function judge(certificate, progress = () => {}) {
     if (step.proved) tell(together(lines, known));
     if (branches) progress(branches);
   };
-  const last = judgeModule().then((module) => work({ certificate, module }, heard)).catch(() => {}).then(() => {
+  const module = judgeModule(certificate);
+  const last = module.then((found) => work({ certificate, module: found }, heard)).catch(() => {}).then(() => {
     const all = together(lines, { ...known, isOver: true });
     tell(all);
     return all;

@@ -1,19 +1,11 @@
 // Why a closed round has no result, and what is left to do.
-import { action, box, fill, h, heading, p } from './dom.js';
+import { action, box, h, heading, p } from './dom.js';
 import { card, download } from './parts.js';
-import { names, number, t } from './language.js';
+import { names, t } from './language.js';
 import { toFrac } from './fractions.js';
-import { get, getText, hostNow, post, sentence } from './api.js';
+import { getText } from './api.js';
 import { winnerCard } from './picture_goods.js';
-import { Proposal } from './proposal.js';
-import { creationOf, makeAgain } from './creation.js';
-import { usualEnd } from './usual_end.js';
-import { isRemembered } from './rounds_kept.js';
-import { STEP } from './rules.js';
-import { proposalDraft } from './store.js';
-import { roundedTo } from './rounding.js';
-
-const equal = (a, b) => JSON.stringify(a) === JSON.stringify(b);
+import { Finish } from './finish.js';
 
 /** Someone had no bid. Only the organiser can do something about it. */
 function voided({ round, again }, missing) {
@@ -23,49 +15,12 @@ function voided({ round, again }, missing) {
     : h('p', { class: 'row' }, action({ class: 'main', click: again }, t('none.again')))];
 }
 
-/** The bids by the members' places among those who bid, as far as this browser may read them: the organiser's has all
-    keys, a member's its own. */
-async function knownBids({ link, path, round }) {
-  const bidOf = async (key) => (await get(`${path}/bid`, key).catch(() => null))?.values ?? null;
-  if (round.you > 0) {
-    const own = await bidOf(link.key);
-    return round.bids.map((member) => (member === round.you ? own : null));
-  }
-  const made = link.tag ? await post('instances', null, creationOf(round, link.tag)).catch(() => null) : null;
-  return made ? Promise.all(round.bids.map((member) => bidOf(made.keys[member - 1]))) : round.bids.map(() => null);
-}
-
-/** The round that the organiser makes with one tap: the same people and things, and a new deadline. */
-function oneTap({ link, round, again }) {
-  const wrong = h('p', { class: 'fault' });
-  const button = action({ click: async () => {
-    button.disabled = true;
-    const how = { currency: link.currency, remembers: isRemembered(link) };
-    const refused = await makeAgain(round, usualEnd(round.kind, hostNow()), how);
-    button.disabled = false;
-    if (refused) fill(wrong, sentence(refused));
-  } }, t('none.oneTap'));
-  return [h('p', { class: 'row' }, button, action({ click: again }, t('none.again'))), wrong];
-}
-
-/** What a new round can do: the points in round numbers, where they aren't yet; or fewer items. */
-function anew(view, bids) {
-  const isRound = bids.every((bid) => bid && equal(bid, roundedTo(bid, STEP)));
-  if (view.round.you > 0) return card(t('none.round'), p(t('none.roundAsk')), p(t('form.fewer')));
-  if (isRound) {
-    return card(t('none.round'), p(t('none.isRound')), p(t('form.fewer')),
-      h('p', { class: 'row' }, action({ click: view.again }, t('none.again'))));
-  }
-  return card(t('none.round'), p(t('none.roundHow')), oneTap(view));
-}
-
-/** The search took too long. */
+/** The server's search took too long. */
 async function endless(view, limit) {
-  const { round } = view;
-  const bids = await knownBids(view);
-  const winner = round.bids.length === 2 ? await twoWay(view) : null;
-  return [heading(t('none.title')), h('p', { class: 'lead' }, t('none.limit', { limit: number(limit) })),
-    winner, new Proposal(round, bids, proposalDraft(view.link)).drawn(), anew(view, bids)];
+  const both = view.round.bids.length === 2 && await twoWay(view);
+  const finish = new Finish(view, limit, both);
+  await finish.begin();
+  return finish.place;
 }
 
 /** What a text of adjusted winner says of two members and these goods: shares, total and who; null where it is no such

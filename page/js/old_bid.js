@@ -1,11 +1,7 @@
-// A round like one whose search took too long: what somebody bid there can be bid here again, in round numbers.
-import { action, announce, box, fill, h, name, p } from './dom.js';
-import { tableStyle } from './more_style.js';
-import { table } from './parts.js';
+// A round like an earlier one: what somebody bid there can be bid here again.
+import { action, announce, box, fill, h, p } from './dom.js';
 import { t, text } from './language.js';
 import { get, sentence } from './api.js';
-import { STEP } from './rules.js';
-import { roundedTo } from './rounding.js';
 import { parse } from './link.js';
 import { allSeen } from './all_seen.js';
 
@@ -28,25 +24,15 @@ async function bidBehind(pasted, { goods }) {
   } catch (refused) { return { fault: sentence(refused) }; }
 }
 
-/** The numbers of then and now. */
-function comparison(round, old) {
-  const now = roundedTo(old, STEP);
-  const rows = round.goods.map((good, i) => h('tr', {}, h('th', { scope: 'row' }, name(good)),
-    h('td', {}, old[i]), h('td', {}, h('strong', {}, now[i]))));
-  return table(text('old.table'), [t('kinds.goods.thing'), t('old.then'), t('old.now')], rows);
-}
-
-/** Offers the old numbers: in `earlier` where they are known, else in `later` to be asked for. `take` puts the rounded
-    ones into the form. */
+/** Offers the old numbers: in `earlier` where they are known, else in `later` to be asked for. `take` puts them
+    into the form. */
 export function offerOld({ earlier, later }, round, take) {
   const known = earlierBid(round);
-  if (known && equal(known, roundedTo(known, STEP))) return; // the very same points would end the same way
   const wrong = h('p', { class: 'fault' });
-  const use = async (old) => {
-    await tableStyle();
-    take(roundedTo(old, STEP));
+  const use = (old) => {
+    take(old);
     fill(later);
-    fill(earlier, box('note', p(t('old.ready')), comparison(round, old)));
+    fill(earlier, box('note', p(t('old.ready'))));
     announce(text('old.ready'));
   };
   if (known) {

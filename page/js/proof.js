@@ -29,7 +29,11 @@ function judgedBy({ verdict, by, proved, script, isLowered, isOver }) {
   return [t(isLowered ? 'judge.lowered' : 'judge.proved'), ' ', t(second)];
 }
 
-const judges = (found) => h('p', { id: 'judges', 'data-by': found.by }, judgedBy(found));
+/** Whether the second check is still to come. */
+const isGoingOn = ({ verdict, isOver }) => !isOver && verdict !== 'none' && verdict !== 'differ';
+
+const judges = (found) => h('p', { id: 'judges', 'data-by': found.by, 'aria-busy': isGoingOn(found) && 'true' },
+  judgedBy(found));
 const told = (found, differ) => (
   { id: 'verdict', 'data-verdict': found.verdict, 'data-rule': found.rule ?? 0, 'data-differ': differ.length });
 
@@ -62,9 +66,10 @@ export const nothingChecked = (why) => h('div',
   p(h('strong', {}, t('check.nothing'))), p(why));
 
 /** What the second check looked at: facts in plain words, then the rules one by one. */
-export function findings({ verdict, by, second }) {
+export function findings(found) {
+  const { verdict, second } = found;
   if (verdict === 'refused' || verdict === 'none') return [];
-  if (!second) return by === 'proved' ? h('p', { id: 'branches' }, t('judge.again')) : [];
+  if (!second) return isGoingOn(found) ? h('p', { id: 'branches' }, t('judge.again')) : [];
   return [
     second.facts.length > 0 && h('ul', { class: 'rules' }, second.facts.map(ruleLine)),
     h('details', { open: second.verdict === 'no' }, h('summary', {}, t('check.rules', { n: second.rules.length })),
@@ -80,7 +85,9 @@ export function tellBranches(root, count) {
 
 /** The second check has ended, and the verdict stands: its words and its findings are added. */
 function settle(root, found) {
-  fill(root.querySelector('#judges'), judgedBy(found)).setAttribute('data-by', found.by);
+  const said = fill(root.querySelector('#judges'), judgedBy(found));
+  said.setAttribute('data-by', found.by);
+  said.removeAttribute('aria-busy');
   const place = root.querySelector('.second');
   if (place) fill(place, findings(found));
 }
@@ -109,6 +116,7 @@ export function differenceText({ what, then, now, from, to }, { kind, members, t
     members: names, things: names,
     you: (number) => (members[number - 1] === undefined ? text('links.organiser') : name(members[number - 1])),
     bid: (bid) => (bid ? bidText(kind, things, bid) : t('differ.noBid')),
+    held: (bid) => (bid ? bidText(kind, things, bid) : t('differ.noBid')),
   }[what];
   if (!show) return t(`differ.${what}`);
   const given = { then: h('strong', {}, show(then)), now: h('strong', {}, show(now)) };
@@ -132,8 +140,8 @@ export function elsewhere({ said, names: known }, certificate, { file, currency 
   return [
     p(listed(said, known)), p(t('proof.file')),
     h('p', { class: 'row' }, action(save, icon('save'), t('proof.downloadButton')), h('a', page, t('check.file'))),
-    p(t('proof.judge', { program: h('code', {}, 'fairsplit'), yes: h('code', {}, 'yes'),
-      command: h('kbd', {}, `fairsplit check < ${file}-certificate.txt`) })),
+    !said.isEstate && p(t('proof.judge', { program: h('code', {}, 'fairsplit'), yes: h('code', {}, 'yes'),
+      command: h('kbd', {}, `fairsplit check < ${file}-certificate.txt`) })), // the program reads no other kind
   ];
 }
 

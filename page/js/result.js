@@ -3,7 +3,7 @@ import { action, announce, box, h, heading, name, p, turn } from './dom.js';
 import { download } from './parts.js';
 import { learnMore, t, text } from './language.js';
 import { get, getText, sentence } from './api.js';
-import { held, peopleOf } from './compare.js';
+import { held, peopleOf, strange } from './compare.js';
 import {
   differenceText, elsewhere, noYes, nothingChecked, proofLine, secondCheck, showVerdicts, tellBranches,
 } from './proof.js';
@@ -25,6 +25,12 @@ export async function result(place, view) {
     await none(place, refused, view);
     return;
   }
+  await judged(place, certificate, view);
+}
+
+/** Judges a certificate, and shows what comes of it. Where it isn't the server's, `view.origin` has the `bid` of
+    whoever looks as the server has it, `tells` whose certificate it is, and `keeps` one that fits. */
+async function judged(place, certificate, view) {
   const checks = judge(certificate, (count) => tellBranches(place, count));
   showVerdicts(place, checks, (found) => {
     turn(place, drawn(found, certificate, view));
@@ -49,10 +55,12 @@ function whoseNames(saw, differ) {
 
 /** A result that holds: what it means for whoever looks, how far it was checked, and the pictures. */
 function whole(found, certificate, view) {
-  const { link, round } = view;
+  const { link, round, origin } = view;
   const { said } = found;
   const saw = seen(link);
-  const { names: known, differ } = held(said, faceOf(round), saw, numbered);
+  const { names: known, differ: differs } = held(said, faceOf(round), saw, numbered);
+  const differ = origin ? [...differs, ...strange(said, round, saw?.bid ? null : origin.bid)] : differs;
+  if (!differ.length) origin?.keeps(certificate);
   const scene = { said, names: known };
   const shown = picture(scene);
   const says = differ.map((one) => differenceText(one, { ...known, kind: said.kind }));
@@ -63,6 +71,7 @@ function whole(found, certificate, view) {
     hero(scene, shown, isDoubtful, proofLine(found, says, isDoubtful, whose && p(t(whose)), p(shown.why),
       elsewhere(scene, certificate, { file, currency: link.currency }), secondCheck(found),
       files(certificate, view, { kind: said.kind, bids: peopleOf(said) }))),
+    origin?.tells(known, certificate),
     shown.parts,
     h('p', { class: 'row after' }, pictureButton(scene, file),
       action({ click: () => print() }, icon('print'), t('files.print')),
@@ -72,7 +81,7 @@ function whole(found, certificate, view) {
 
 /** The texts of a closed round, as files: which there are goes by its kind and by who has a bid. */
 function files(certificate, view, { kind, bids }) {
-  const { path, link } = view;
+  const { path, link, origin } = view;
   const textOf = async (what) => (what === 'certificate' ? certificate : getText(`${path}/${what}`, link.key));
   const fetched = (label, what) => action({ click: async (event) => {
     const button = event.currentTarget;
@@ -84,6 +93,8 @@ function files(certificate, view, { kind, bids }) {
     } catch (refused) { button.after(box('bad', sentence(refused))); }
     button.disabled = false;
   } }, t(label));
+  const bare = h('p', { class: 'row' }, fetched('files.certificate', 'certificate'));
+  if (origin) return [h('h2', {}, t('files.title')), bare]; // the server has no more of it
   return [h('h2', {}, t('files.title')), p(t('files.whose')), h('p', { class: 'row' },
     fetched('files.certificate', 'certificate'), fetched('files.report', 'report'),
     kind !== 'rent' && fetched('files.audit', 'audit'),
@@ -93,7 +104,11 @@ function files(certificate, view, { kind, bids }) {
 /** No certificate came: why there is no result, or that nothing was checked. */
 async function none(place, refused, view) {
   const { noResult } = await import('./no_result.js');
-  const told = await noResult(refused, view);
+  const show = (certificate, origin) => {
+    place.closest('main').dataset.view = 'result';
+    judged(place, certificate, { ...view, origin });
+  };
+  const told = await noResult(refused, { ...view, show });
   if (!told) { await withoutCertificate(place, refused, view); return; }
   place.closest('main').dataset.view = 'none'; // whose help is another one
   turn(place, told);

@@ -4,12 +4,9 @@
     docs/REFERENCE.md. */
 export const LIMITS = {
   name: 40, members: [2, 12], riders: [2, 10], goods: [1, 24], places: [1, 12],
-  rent: 10_000_000, cost: 1_000_000, steps: 200_000, points: 1000, turns: 20,
+  rent: 10_000_000, cost: 1_000_000, steps: 200_000, estateSteps: 1_000_000, points: 1000, turns: 20,
   certificate: 4_000_000, digits: 25, denominator: 4_294_967_295,
 };
-
-/** Points in steps of this size: the search ends more often then. */
-export const STEP = 50;
 
 /** The mark in a link, in place of a currency, of items to which everyone gives ten chips of a hundred points each. */
 export const CHIPS = 'TEN';

@@ -2,5 +2,6 @@
 import { solveTask } from './solve_task.js';
 
 globalThis.onmessage = async ({ data }) => {
-  try { postMessage(await solveTask(data)); } catch { postMessage({ status: null }); }
+  const tell = (progress) => postMessage({ progress });
+  try { postMessage(await solveTask(data, tell)); } catch { postMessage({ status: null }); }
 };

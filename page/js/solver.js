@@ -25,24 +25,42 @@ function moduleBytes() {
   return modules;
 }
 
+let estate = null;
+
+/** The bytes of the module that searches on for items. They are asked for once. */
+function estateBytes() {
+  estate ??= moduleOf('estate').catch((fault) => { estate = null; throw fault; });
+  return estate;
+}
+
 /** A worker that divides one case after the other. */
 export class Solver {
   /** What comes of a case: { status, text, says }; with the status null where the modules don't run here. */
   async solve(made) {
     try {
-      const task = { modules: await moduleBytes(), kind: made.kind, numbers: numbersOf(made) };
-      return await this.ask(task);
+      return await this.ask({ modules: await moduleBytes(), kind: made.kind, numbers: numbersOf(made) });
     } catch {
       this.stop();
       return { status: null };
     }
   }
 
-  ask(task) {
+  /** The same of items by the search that goes on where the specified one stops, with the `owners` of the best division
+      that it found. `progress` hears { steps, owners } now and then. */
+  async search(made, progress) {
+    try {
+      return await this.ask({ estate: await estateBytes(), numbers: numbersOf(made) }, progress);
+    } catch {
+      this.stop();
+      return { status: null };
+    }
+  }
+
+  ask(task, progress) {
     this.worker ??= startWorker('solve');
     return new Promise((done, fail) => {
       this.fail = fail;
-      this.worker.onmessage = ({ data }) => done(data);
+      this.worker.onmessage = ({ data }) => { if (data.progress) progress(data.progress); else done(data); };
       this.worker.onerror = fail;
       this.worker.postMessage(task);
     });

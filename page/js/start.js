@@ -61,8 +61,10 @@ class Rounds {
 
 /** The example, which is loaded once the view stands. */
 function example() {
-  const place = h('section', { class: 'shown', id: 'demo' }, h('h2', {}, t('demo.title')), p(t('wait')));
-  import('./demo.js').then(({ demo }) => demo(place), () => place.remove());
+  const place = h('section', { class: 'shown', id: 'demo', 'aria-busy': 'true' },
+    h('h2', {}, t('demo.title')), p(t('wait')));
+  import('./demo.js').then(({ demo }) => demo(place), () => place.remove())
+    .then(() => place.removeAttribute('aria-busy'));
   return place;
 }
 

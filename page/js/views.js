@@ -10,9 +10,11 @@ export async function showOwn(root, hash) {
   const made = /^#new-(rent|goods|fares)$/.exec(hash);
   const { create } = made ? await import('./create.js') : {};
   const { checkView } = hash === '#check' ? await import('./checkview.js') : {};
+  const { showHanded } = hash.startsWith('#result.') ? await import('./handed_view.js') : {};
   const { divideView } = hash === '#divide' ? await import('./divide.js') : {};
   await Promise.all([learnMore(), tableStyle()]);
   if (hash !== location.hash) return;
+  if (showHanded) { await showHanded(root, hash); return; }
   root.dataset.view = made ? 'form' : { '#check': 'check', '#divide': 'divide' }[hash] ?? 'start';
   if (made) create(root, made[1]);
   else if (checkView) { entitle(text('check.link')); checkView(root); }

@@ -127,8 +127,6 @@ export const words = {
     error: 'Fehler:',
     afresh: 'Formular leeren',
     twice: 'Das steht zweimal da und ist leicht zu verwechseln: {names}.',
-    chance: 'Die Suche nach der besten Aufteilung kann ohne Antwort enden. Von {of} gezogenen Versuchen mit {people} Personen und {things} Gegenständen hatten *{any}* eine, und *{stepped}*, wenn alle Punkte Vielfache von {step} waren.',
-    fewer: 'Fasst kleine Gegenstände zusammen, damit es weniger sind.',
     points: 'Was verteilt jede Person?',
     thousand: '1000 Punkte',
     chips: 'Zehn Chips, jeder 100 Punkte wert',

@@ -127,8 +127,6 @@ export const words = {
     error: 'Error:',
     afresh: 'Vaciar el formulario',
     twice: 'Esto aparece dos veces y es fácil de confundir: {names}.',
-    chance: 'La búsqueda del mejor reparto puede acabar sin respuesta. De {of} pruebas al azar con {people} personas y {things} objetos, *{any}* tuvieron una, y *{stepped}* cuando todos los puntos eran múltiplos de {step}.',
-    fewer: 'Junta los objetos pequeños para que sean menos.',
     points: '¿Qué reparte cada persona?',
     thousand: '1000 puntos',
     chips: 'Diez fichas, cada una de 100 puntos',

@@ -127,8 +127,6 @@ export const words = {
     error: 'Erreur :',
     afresh: 'Vider le formulaire',
     twice: 'Ceci figure deux fois et se confond facilement : {names}.',
-    chance: 'La recherche du meilleur partage peut finir sans réponse. Sur {of} essais tirés au sort avec {people} personnes et {things} objets, *{any}* en ont eu une, et *{stepped}* quand tous les points étaient des multiples de {step}.',
-    fewer: 'Regroupe les petits objets pour en avoir moins.',
     points: 'Que répartit chaque personne ?',
     thousand: '1000 points',
     chips: 'Dix jetons, de 100 points chacun',

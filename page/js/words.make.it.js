@@ -127,8 +127,6 @@ export const words = {
     error: 'Errore:',
     afresh: 'Svuota il modulo',
     twice: 'Questo compare due volte ed è facile confondersi: {names}.',
-    chance: 'La ricerca della divisione migliore può finire senza risposta. Su {of} prove estratte con {people} persone e {things} oggetti, *{any}* ne hanno avuta una, e *{stepped}* quando tutti i punti erano multipli di {step}.',
-    fewer: 'Unisci gli oggetti piccoli, così sono di meno.',
     points: 'Che cosa distribuisce ogni persona?',
     thousand: '1000 punti',
     chips: 'Dieci gettoni, da 100 punti ciascuno',

@@ -127,8 +127,6 @@ export const words = {
     error: 'Error:',
     afresh: 'Empty the form',
     twice: 'You have these twice, and they are easy to mix up: {names}.',
-    chance: 'The search for the best division may end without an answer. Of {of} drawn trials with {people} people and {things} items, *{any}* had one, and *{stepped}* when all points were multiples of {step}.',
-    fewer: 'Put small items together, so that there are fewer.',
     points: 'What does each person spread?',
     thousand: '1000 points',
     chips: 'Ten chips, each worth 100 points',

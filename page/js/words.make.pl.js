@@ -127,8 +127,6 @@ export const words = {
     error: 'Błąd:',
     afresh: 'Wyczyść formularz',
     twice: 'To występuje dwa razy i łatwo to pomylić: {names}.',
-    chance: 'Szukanie najlepszego podziału może skończyć się bez odpowiedzi. Z {of} wylosowanych prób z {people} osobami i {things} przedmiotami odpowiedź miało *{any}*, a *{stepped}*, gdy wszystkie punkty były wielokrotnościami {step}.',
-    fewer: 'Połącz drobne rzeczy, żeby było ich mniej.',
     points: 'Co rozdziela każda osoba?',
     thousand: '1000 punktów',
     chips: 'Dziesięć żetonów, każdy po 100 punktów',
