@@ -5,7 +5,7 @@ use Rattle.bid_rules.specs.declared.goods.GoodsCase.{GoodsCase}
 use Rattle.bid_rules.specs.Goods.{AreOwners, GoodsBest, IsAllocation, IsValidGoodsCase, in_search_order, owners_by_good, player_count, utilities}
 use Rattle.bid_rules.specs.Pairs.{positives}
 use Rattle.estate_bounds.specs.Counts.{IsCountLimit, IsShort}
-use Rattle.estate_checker.specs.Judged.{AllRulesHold, IsEstateCertificate, PrintsBestEstate}
+use Rattle.estate_checker.specs.Judged.{AllRulesHold, IsEstateCertificate, PrintsBestEstate, PrintsBestOf}
 use Rattle.estate_checker.specs.Printed.{printed_answer, printed_case, printed_owners}
 use Rattle.estate_checker.specs.Rules.{HasCase, HasOwners, HasShort, HasTree}
 use Rattle.estate_checker.proofs.BodyRows.{owners_all, rows_long}
@@ -106,3 +106,11 @@ printed_by bytes view is_text rules best =
 
 pub best_estate : EstateLaws → (bytes : List ℕ) → IsEstateCertificate bytes → PrintsBestEstate bytes
 best_estate laws bytes h = printed_by bytes h.view h.is_text h.rules (best_view laws h.view h.is_text.can h.rules)
+
+-- and the case and the owners that it prints are these
+pub printed_of : (bytes : List ℕ) (view : EstateView) (case : GoodsCase) (owners : List ℕ) → IsEstateText bytes view → AllRulesHold view
+    → GoodsBest (printed_case view) (printed_answer view) × (owners_by_good (printed_case view) (printed_answer view) ≡ printed_owners view)
+    → case ≡ printed_case view → owners ≡ printed_owners view → PrintsBestOf bytes case owners
+unfolding printed_by
+printed_of bytes view case owners is_text rules best of_case of_owners =
+    record { prints = printed_by bytes view is_text rules best; same_case = sym of_case; same_owners = sym of_owners }

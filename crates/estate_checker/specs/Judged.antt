@@ -1,5 +1,6 @@
 -- What the judge says about the text of an estate, and what a yes shows.
 use Rattle.std.specs.Prelude.{◌≡◌, ℕ, ◌≤◌, List, length}
+use Rattle.bid_rules.specs.declared.goods.GoodsCase.{GoodsCase}
 use Rattle.bid_rules.specs.Goods.{GoodsBest, owners_by_good}
 use Rattle.cert_reader.specs.declared.limits.TheConstants.{MOST_BYTES}
 use Rattle.estate_checker.specs.Printed.{printed_answer, printed_case, printed_owners}
@@ -38,3 +39,9 @@ pub record PrintsBestEstate (bytes : List ℕ) : Type 0 where
   pub each : AreBetween 1 view.players (owners_of view)
   pub best : GoodsBest (printed_case view) (printed_answer view)
   pub owners : owners_by_good (printed_case view) (printed_answer view) ≡ printed_owners view
+
+-- the bytes are the text of an estate that prints this case and, as the owners of its goods, this best division of it
+pub record PrintsBestOf (bytes : List ℕ) (case : GoodsCase) (owners : List ℕ) : Type 0 where
+  pub prints : PrintsBestEstate bytes
+  pub same_case : printed_case prints.view ≡ case
+  pub same_owners : printed_owners prints.view ≡ owners
