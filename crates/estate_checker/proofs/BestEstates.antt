@@ -5,7 +5,7 @@ use Rattle.bid_rules.specs.declared.goods.GoodsCase.{GoodsCase}
 use Rattle.bid_rules.specs.Goods.{AreOwners, GoodsBest, IsAllocation, IsValidGoodsCase, in_search_order, owners_by_good, player_count, utilities}
 use Rattle.bid_rules.specs.Pairs.{positives}
 use Rattle.estate_bounds.specs.Counts.{IsCountLimit, IsShort}
-use Rattle.estate_checker.specs.Judged.{AllRulesHold, IsEstateCertificate, PrintsBestEstate, PrintsBestOf}
+use Rattle.estate_checker.specs.Judged.{AllRulesHold, IsEstateCertificate, PrintsBestEstate}
 use Rattle.estate_checker.specs.Printed.{printed_answer, printed_case, printed_owners}
 use Rattle.estate_checker.specs.Rules.{HasCase, HasOwners, HasShort, HasTree}
 use Rattle.estate_checker.proofs.BodyRows.{owners_all, rows_long}
@@ -13,7 +13,7 @@ use Rattle.estate_judge.specs.declared.node.Node.{Node}
 use Rattle.estate_judge.specs.Leaves.{KeepsRule}
 use Rattle.estate_judge.specs.Nodes.{AreNodes, IsInner}
 use Rattle.estate_texts.specs.Given.{GivenLine}
-use Rattle.estate_texts.specs.Texts.{CanSayEstate, EstateView, IsEstateText, owners_of, short_of, values_of}
+use Rattle.estate_texts.specs.Texts.{CanSayEstate, EstateView, owners_of, short_of, values_of}
 use Rattle.prefix_trees.specs.Leaves.{AnyLeaf, HasLeaf}
 use Rattle.prefix_trees.specs.Tree.{IsTree}
 use Rattle.std.proofs.lemmas.Int.{ints}
@@ -73,7 +73,7 @@ keeps_any case answer number owners above node shape closed whole own twin = rec
 
 -- the rules that hold of what a text says show that its division is the best one
 pub best_view : EstateLaws → (view : EstateView) → CanSayEstate view → AllRulesHold view
-    → GoodsBest (printed_case view) (printed_answer view) × (owners_by_good (printed_case view) (printed_answer view) ≡ printed_owners view)
+    → IsValidGoodsCase (printed_case view) × GoodsBest (printed_case view) (printed_answer view) × (owners_by_good (printed_case view) (printed_answer view) ≡ printed_owners view)
 best_view laws view can rules =
     let case = printed_case view in
     let answer = printed_answer view in
@@ -94,23 +94,9 @@ best_view laws view can rules =
     (leaf_keeps laws view 7 few tree (rules 7 (omega arith) (omega arith)) owners above node leads)
     (leaf_keeps laws view 8 few tree (rules 8 (omega arith) (omega arith)) owners above node leads)
     (leaf_keeps laws view 9 few tree (rules 9 (omega arith) (omega arith)) owners above node leads)) in
-    (best, laws.again case (printed_owners view) long)
-
--- so the text prints a case and its best division
-printed_by : (bytes : List ℕ) (view : EstateView) → IsEstateText bytes view → AllRulesHold view
-    → GoodsBest (printed_case view) (printed_answer view) × (owners_by_good (printed_case view) (printed_answer view) ≡ printed_owners view) → PrintsBestEstate bytes
-printed_by bytes view is_text rules best =
-    let first : HasCase view = rules 1 (omega arith) (omega arith) in
-    let second : HasOwners view = rules 2 (omega arith) (omega arith) in
-    record { view = view; is_text = is_text; printed = first.printed; each = second; best = best.0; owners = best.1 }
+    (valid, best, laws.again case (printed_owners view) long)
 
 pub best_estate : EstateLaws → (bytes : List ℕ) → IsEstateCertificate bytes → PrintsBestEstate bytes
-best_estate laws bytes h = printed_by bytes h.view h.is_text h.rules (best_view laws h.view h.is_text.can h.rules)
-
--- and the case and the owners that it prints are these
-pub printed_of : (bytes : List ℕ) (view : EstateView) (case : GoodsCase) (owners : List ℕ) → IsEstateText bytes view → AllRulesHold view
-    → GoodsBest (printed_case view) (printed_answer view) × (owners_by_good (printed_case view) (printed_answer view) ≡ printed_owners view)
-    → case ≡ printed_case view → owners ≡ printed_owners view → PrintsBestOf bytes case owners
-unfolding printed_by
-printed_of bytes view case owners is_text rules best of_case of_owners =
-    record { prints = printed_by bytes view is_text rules best; same_case = sym of_case; same_owners = sym of_owners }
+best_estate laws bytes h =
+    let best = best_view laws h.view h.is_text.can h.rules in
+    record { view = h.view; is_text = h.is_text; valid = best.0; best = best.1; owners = best.2 }

@@ -1,14 +1,11 @@
 -- What the judge says about the text of an estate, and what a yes shows.
 use Rattle.std.specs.Prelude.{◌≡◌, ℕ, ◌≤◌, List, length}
-use Rattle.bid_rules.specs.declared.goods.GoodsCase.{GoodsCase}
-use Rattle.bid_rules.specs.Goods.{GoodsBest, owners_by_good}
+use Rattle.bid_rules.specs.Goods.{GoodsBest, IsValidGoodsCase, owners_by_good}
 use Rattle.cert_reader.specs.declared.limits.TheConstants.{MOST_BYTES}
 use Rattle.estate_checker.specs.Printed.{printed_answer, printed_case, printed_owners}
 use Rattle.estate_checker.specs.Rules.{estate_rule, rules_of_estate}
-use Rattle.estate_texts.specs.Texts.{EstateView, IsEstateText, owners_of, values_of, who_of}
+use Rattle.estate_texts.specs.Texts.{EstateView, IsEstateText}
 use Rattle.rule_verdicts.specs.declared.verdict.Verdict.{Verdict}
-use Rattle.rule_verdicts.specs.PrintedGoods.{ArePrintedGoods}
-use Rattle.rule_verdicts.specs.Ranges.{AreBetween}
 use Rattle.rule_verdicts.specs.Verdicts.{IsVerdictOf}
 
 -- all nine rules hold
@@ -30,18 +27,10 @@ pub record IsEstateVerdict (bytes : List ℕ) (verdict : Verdict) : Type 0 where
   pub short : length bytes ≤ MOST_BYTES
   pub gives : IsVerdictOf (rules_of_estate view) verdict
 
--- the bytes are the text of an estate that prints a valid case and its best division; owners are printed in the order of the goods. The printed numbers have no
--- minus signs, and each good has a player as its owner
+-- the bytes are the text of an estate that prints a valid case and its best division; owners are printed in the order of the goods
 pub record PrintsBestEstate (bytes : List ℕ) : Type 0 where
   pub view : EstateView
   pub is_text : IsEstateText bytes view
-  pub printed : ArePrintedGoods view.goods 1 (who_of view) (values_of view)
-  pub each : AreBetween 1 view.players (owners_of view)
+  pub valid : IsValidGoodsCase (printed_case view)
   pub best : GoodsBest (printed_case view) (printed_answer view)
   pub owners : owners_by_good (printed_case view) (printed_answer view) ≡ printed_owners view
-
--- the bytes are the text of an estate that prints this case and, as the owners of its goods, this best division of it
-pub record PrintsBestOf (bytes : List ℕ) (case : GoodsCase) (owners : List ℕ) : Type 0 where
-  pub prints : PrintsBestEstate bytes
-  pub same_case : printed_case prints.view ≡ case
-  pub same_owners : printed_owners prints.view ≡ owners

@@ -1,7 +1,7 @@
 // The case and the division that a certificate prints, where the judge says yes to it.
 ghost use Rattle.std.specs.Prelude.{◌≡◌, ℕ, List, IfSome};
 ghost use Rattle.bid_rules.specs.Goods.{GoodsBest, owners_by_good};
-ghost use Rattle.estate_checker.specs.Judged.{AllRulesHold, PrintsBestOf};
+ghost use Rattle.estate_checker.specs.Judged.{AllRulesHold, PrintsBestEstate};
 ghost use Rattle.estate_checker.specs.Printed.{printed_case, printed_owners};
 ghost use Rattle.estate_checker.specs.Said.{IsSaid};
 ghost use Rattle.estate_texts.specs.Given.{GivenLine};
@@ -59,7 +59,7 @@ fn kept(text: &EstateText<'_>) -> Option<PrintedBest>
 
 /// The case and the division that a certificate prints, if the judge says yes to it: then the division is the best one.
 pub fn printed_best(text: &[u8]) -> Option<PrintedBest>
-    ensures prints { IfSome result (λ best. PrintsBestOf text.now best.case best.owners.items) }
+    ensures prints { IfSome result (λ _. PrintsBestEstate text.now) }
     ensures best { IfSome result (λ best.
         (answer : List ℕ) × GoodsBest best.case answer
         × (best.owners.items ≡ owners_by_good best.case answer)) }

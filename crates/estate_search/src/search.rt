@@ -69,11 +69,6 @@ fn first_owners(case: &GoodsCase, table: &LaneTable) -> OwnerList
     drafted(case, &draft)
 }
 
-// How many steps a walk may make: those that the walks before it have left.
-fn steps_left(limit: u32, progress: &Progress) -> u32 {
-    limit.saturating_sub(progress.before)
-}
-
 impl<'a> Search<'a> {
     ghost use Rattle.estate_search.specs.Endings.{EndsSearch, IsDivision, estate_of};
 
@@ -126,7 +121,7 @@ impl<'a> Search<'a> {
             logs: RoughLogs::new(),
             limit,
             short,
-            walk: Walk::new(tree, twins, state.path, steps_left(limit, &state.progress)),
+            walk: Walk::new(tree, twins, state.path, limit),
             progress: state.progress,
             state: rooms.state,
             text: Bytes::new(rooms.text),
@@ -155,8 +150,7 @@ impl<'a> Search<'a> {
     fn begin(&mut self)
         ensures { self.new ≡ self.old }
     {
-        let left = steps_left(self.limit, &self.progress);
-        let begun = self.walk.begin(&self.estate, &self.logs, left);
+        let begun = self.walk.begin(&self.estate, &self.logs);
         self.progress.goes_on = begun.is_ok();
         self.progress.stop = begun.err();
     }
@@ -199,8 +193,7 @@ impl<'a> Search<'a> {
         }
     }
 
-    // Ends a walk. What was closed before a better division was found may be more than need be, so then it is walked once more. The text of the first walk stands
-    // where the second runs out of steps.
+    // Ends a walk. What was closed before a better division was found may be more than need be, so then it is walked once more.
     fn finish(&mut self)
         ensures { self.new ≡ self.old }
     {

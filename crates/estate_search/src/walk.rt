@@ -71,17 +71,11 @@ impl<'a> Walk<'a> {
         }
     }
 
-    /// Begins with the prefix of no goods, to make so many steps at most.
-    pub(crate) fn begin(
-        &mut self,
-        estate: &Estate,
-        logs: &RoughLogs,
-        limit: u32,
-    ) -> Result<(), Stop> {
+    /// Begins with the prefix of no goods.
+    pub(crate) fn begin(&mut self, estate: &Estate, logs: &RoughLogs) -> Result<(), Stop> {
         self.tree.clear();
         self.twins.clear();
         self.path = Path::default();
-        self.limit = limit;
         let Some(front) = estate.front_of(&[]) else {
             return Err(Stop::Steps);
         };

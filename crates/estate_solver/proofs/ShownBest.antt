@@ -1,24 +1,21 @@
 -- A certificate of the case that it was compared with shows the best division.
-use Rattle.std.proofs.Common.{◌≡◌, ℕ, ◌≤◌, List, length, take, subst, sym, ◌∙◌}
-use Rattle.std.proofs.lemmas.List.{length-take-le}
+use Rattle.std.proofs.Common.{ℕ, ◌≤◌, List, length, take, subst, sym}
 use Rattle.bid_rules.specs.declared.goods.GoodsCase.{GoodsCase}
-use Rattle.estate_checker.specs.Judged.{PrintsBestOf}
+use Rattle.estate_checker.specs.Judged.{PrintsBestEstate}
 use Rattle.estate_solver.specs.declared.outcome.SliceEnd.{SliceEnd}
 use Rattle.estate_solver.specs.declared.outcome.SliceEnd.TheVariants.{Best, GoesOn, NotShown, OverLimit, TooLong}
 use Rattle.estate_solver.specs.Outcomes.{EndsSlice, IsCompared}
 
-pub ends_compared : (case : GoodsCase) (end : SliceEnd) (owners text : List ℕ) (size : ℕ) → size ≤ length text → IsCompared case (take size text) end owners
+pub ends_compared : (case : GoodsCase) (end : SliceEnd) (owners text : List ℕ) (size : ℕ) → size ≤ length text → PrintsBestEstate (take size text) → IsCompared case size end owners
     → EndsSlice case end owners text
-ends_compared case (Best shown) owners text size room (same, prints, (answer, best, owned)) =
-    let all : size ≡ shown = sym (same ∙ length-take-le size text room) in
-    record {
-      answer = answer;
-      best = best;
-      owned = owned;
-      room = subst (λ (n : ℕ). n ≤ length text) all room;
-      certificate = subst (λ (n : ℕ). PrintsBestOf (take n text) case owners) all prints;
-    }
-ends_compared case NotShown owners text size room is = is
-ends_compared case GoesOn owners text size room is = elim is [ ]
-ends_compared case OverLimit owners text size room is = elim is [ ]
-ends_compared case TooLong owners text size room is = elim is [ ]
+ends_compared case (Best shown) owners text size room prints (same, (answer, best, owned)) = record {
+  answer = answer;
+  best = best;
+  owned = owned;
+  room = subst (λ (n : ℕ). n ≤ length text) (sym same) room;
+  certificate = subst (λ (n : ℕ). PrintsBestEstate (take n text)) (sym same) prints;
+}
+ends_compared case NotShown owners text size room prints is = is
+ends_compared case GoesOn owners text size room prints is = elim is [ ]
+ends_compared case OverLimit owners text size room prints is = elim is [ ]
+ends_compared case TooLong owners text size room prints is = elim is [ ]

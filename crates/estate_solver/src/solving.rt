@@ -1,7 +1,6 @@
 // Drives a search, and judges what it ends with.
 ghost use Rattle.std.specs.Prelude.{◌≡◌, ℕ, IfSome, List};
 ghost use Rattle.bid_rules.specs.Goods.{GoodsBest, IsValidGoodsCase, owners_by_good};
-ghost use Rattle.estate_checker.specs.Judged.{PrintsBestOf};
 ghost use Rattle.estate_search.specs.Endings.{EndsSearch, IsDivision, estate_of};
 ghost use Rattle.estate_solver.specs.Outcomes.{EndsSlice, IsCompared};
 
@@ -53,16 +52,15 @@ fn walk(search: Search<'_>, steps: u32) -> Walked
 }
 
 // The division that the certificate prints, if it is one of this case, and otherwise the one that was found.
-fn compared(case: &GoodsCase, best: PrintedBest, text: &[u8], owners: Owners) -> Outcome
+fn compared(case: &GoodsCase, best: PrintedBest, size: usize, owners: Owners) -> Outcome
     requires best { (answer : List ℕ) × GoodsBest best.case answer
         × (best.owners.items ≡ owners_by_good best.case answer) }
-    requires prints { PrintsBestOf text.now best.case best.owners.items }
     requires owners { IsDivision case.now owners.items }
-    ensures { IsCompared case.now text.now result.end result.owners.items }
+    ensures { IsCompared case.now size result.end result.owners.items }
 {
     if best.case == *case {
         Outcome {
-            end: SliceEnd::Best { size: text.len() },
+            end: SliceEnd::Best { size },
             owners: best.owners,
         }
     } else {
@@ -89,9 +87,8 @@ fn judged(case: &GoodsCase, found: Found, text: &[u8]) -> Outcome
             owners,
         };
     }
-    let certificate = &text[..size];
-    match printed_best(certificate) {
-        Some(best) => compared(case, best, certificate, owners),
+    match printed_best(&text[..size]) {
+        Some(best) => compared(case, best, size, owners),
         None => Outcome {
             end: SliceEnd::NotShown,
             owners,

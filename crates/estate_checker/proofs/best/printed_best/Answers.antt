@@ -2,19 +2,9 @@ use Rattle.std.proofs.Common.{ap, subst, sym, ◌∙◌}
 use Rattle.bid_rules.specs.declared.goods.GoodsCase.{GoodsCase}
 use Rattle.bid_rules.specs.Goods.{GoodsBest, owners_by_good}
 use Rattle.estate_checker.specs.Printed.{printed_answer}
-use Rattle.estate_checker.proofs.BestEstates.{printed_of}
 use Rattle.estate_checker.proofs.SomeValues.{if_some_map}
 use Rattle.estate_texts.specs.Steps.{view_of_text}
 use Rattle.estate_checker.proofs.best.printed_best.Goals as goal
-
-pub returns-in-Ok-clause-prints : goal.returns-in-Ok-clause-prints
-returns-in-Ok-clause-prints c =
-    let read = c.in-Ok.ensures in
-    let view = view_of_text c.in-Ok.read read.given in
-    if_some_map c.kept.result
-    (λ best is.
-    printed_of c.args.text.now view best.case best.owners.items read.is_text is.0 (c.estate_certificate_law.ensures.view view read.is_text.can is.0) is.1 is.2)
-    (c.kept.ensures read.given (record { can = read.is_text.can; lines = read.lines }))
 
 pub returns-in-Ok-clause-best : goal.returns-in-Ok-clause-best
 returns-in-Ok-clause-best c =

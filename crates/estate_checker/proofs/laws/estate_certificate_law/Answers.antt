@@ -10,7 +10,7 @@ use Rattle.estate_checker.proofs.laws.estate_certificate_law.Goals as goal
 
 pub returns-clause-view : goal.returns-clause-view
 returns-clause-view c view can rules =
-    best_view
+    let best = best_view
     (record {
       count = c.count_law.ensures;
       best = c.estate_tree_law.ensures;
@@ -18,7 +18,8 @@ returns-clause-view c view can rules =
       allocation = c.owners_by_good_law.ensures.allocation;
       again = c.owners_by_good_law.ensures.by_good_again;
     })
-    view can rules
+    view can rules in
+    (best.1, best.2)
 
 pub returns-clause-best : goal.returns-clause-best
 returns-clause-best c bytes h =
