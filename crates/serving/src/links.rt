@@ -69,46 +69,6 @@ fn closes(head: &Head, last: bool) -> bool
     head.closes || last
 }
 
-// Serves one connection with these tools, as `serve_one` does.
-pub(crate) fn serve_heads<D: Disk, L: Link, C: Clock, R: Threads + Sync, G: Gate + Sync>(
-    tools: &mut Tools<'_, R, G>,
-    serving: &mut Serving,
-    disk: &mut D,
-    link: &mut L,
-    clock: &mut C,
-) -> LinkEnd
-    ensures run { (w : D × State) → StandsAt D.Disk serving.old disk.old w
-        → RanTo (LinkRun (host_service D.Disk) MAX_REQUESTS)
-        (link_view (tells_of L.Source L.Sink) link.old)
-        (link_view (tells_of L.Source L.Sink) link.new)
-        (ClockRun C.gives C.faults clock.old clock.new) (StandsAt D.Disk serving.new disk.new) w
-        result }
-
-    // Whatever state the serving has.
-    ensures counts { CountsServed (link_view (tells_of L.Source L.Sink) link.old)
-        (link_view (tells_of L.Source L.Sink) link.new) (Some result) }
-    ensures reads { L.Source.faults link.old ≤ L.Source.faults link.new }
-    ensures writes { L.Sink.faults link.old ≤ L.Sink.faults link.new }
-    ensures empty { L.Sink.empty_writes link.new ≡ L.Sink.empty_writes link.old }
-    ensures clock { C.faults clock.old ≤ C.faults clock.new }
-    ensures disk { D.faults disk.old ≤ D.faults disk.new }
-    ensures honest { D.is_honest disk.old ↔ D.is_honest disk.new }
-{
-    let mut carry = Carry::new();
-    let mut page = Page::blank();
-    let mut left = MAX_REQUESTS;
-    loop {
-        left -= 1;
-        let last = left == 0;
-        match serve_head(
-            tools, serving, disk, link, clock, &mut carry, &mut page, last,
-        ) {
-            Some(end) => return end,
-            None => {}
-        }
-    }
-}
-
 /// Serves one connection: its heads in order, at most `MAX_REQUESTS` of them, each at one answer of the clock and with one reply. It takes no
 /// memory but what a head or a request may be refused for. No write is empty.
 ///
@@ -153,11 +113,23 @@ pub fn serve_one<'a, D: Disk, L: Link, C: Clock, R: Threads + Sync, G: Gate + Sy
     ensures honest { D.is_honest disk.old ↔ D.is_honest disk.new }
 {
     let means = Means { alloc, rt, gate };
-    let workers = Workers::new(workers);
     let solver = Solver {
         means: &means,
-        workers,
+        workers: Workers::new(workers),
         searches,
     };
-    serve_heads(&mut Tools { solver, routes }, serving, disk, link, clock)
+    let mut tools = Tools { solver, routes };
+    let mut carry = Carry::new();
+    let mut page = Page::blank();
+    let mut left = MAX_REQUESTS;
+    loop {
+        left -= 1;
+        let last = left == 0;
+        match serve_head(
+            &mut tools, serving, disk, link, clock, &mut carry, &mut page, last,
+        ) {
+            Some(end) => return end,
+            None => {}
+        }
+    }
 }

@@ -7,7 +7,7 @@ ghost use Rattle.serving.specs.Ports.{LinkGone, PortServed};
 ghost use Rattle.serving.specs.Served.{tells_of};
 ghost use Rattle.serving.specs.Serving.{StandsAt, host_service};
 
-use crate::links::serve_heads;
+use crate::serve_one;
 use host_journal::Serving;
 use requests::Tools;
 use split_base::{Clock, Disk, Failed, Gate, Port};
@@ -37,7 +37,20 @@ fn serve_link<D: Disk, P: Port, C: Clock, R: Threads + Sync, G: Gate + Sync>(
     ensures disk { D.faults disk.old ≤ D.faults disk.new }
     ensures honest { D.is_honest disk.old ↔ D.is_honest disk.new }
 {
-    let _end = serve_heads(tools, serving, disk, &mut link, clock);
+    let means = tools.solver.means;
+    let workers = tools.solver.workers.count();
+    let _end = serve_one(
+        means.alloc,
+        means.rt,
+        serving,
+        disk,
+        &mut link,
+        clock,
+        tools.routes,
+        tools.solver.searches,
+        workers,
+        means.gate,
+    );
     port.done(link);
 }
 

@@ -2,9 +2,9 @@ use Rattle.serving.proofs.ports.serve_link.Goals as goal
 
 pub returns-clause-served : goal.returns-clause-served
 returns-clause-served g c w stands =
-    let ran = c.serve_heads-end.ensures.run w stands in
+    let ran = c.serve_one-end.ensures.run w stands in
     record {
-      ended = c.serve_heads-end.new.link;
+      ended = c.serve_one-end.new.link;
       answers = ran.answers;
       new = ran.new;
       clock = ran.clock;

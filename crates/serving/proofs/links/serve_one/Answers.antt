@@ -5,7 +5,7 @@ use Rattle.serving.proofs.Hearing.{counts_joined, none_joined}
 use Rattle.serving.specs.Served.{with_carry, link_view, tells_of}
 use Rattle.serving.specs.Serving.{StandsAt, host_service}
 use Rattle.serving.proofs.Lasting.{some_left}
-use Rattle.serving.proofs.links.serve_heads.Goals as goal
+use Rattle.serving.proofs.links.serve_one.Goals as goal
 
 pub loop-end-init : goal.loop-end-init
 loop-end-init g c = record {

@@ -4,7 +4,7 @@ use Rattle.serving.specs.declared.limits.TheConstants.{MAX_REQUESTS}
 use Rattle.serving.specs.Served.{Going, CountsStay, with_carry, link_view, tells_of}
 use Rattle.split_base.specs.Clocks.{ClockRun}
 use Rattle.serving.specs.Serving.{StandsAt, host_service}
-use Rattle.serving.proofs.links.serve_heads.Given as goal
+use Rattle.serving.proofs.links.serve_one.Given as goal
 
 abbrev pub invariant-loop-end : goal.invariant-loop-end
 invariant-loop-end g l = record {
