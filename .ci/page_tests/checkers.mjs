@@ -119,12 +119,16 @@ function allNear(text) {
 
 const tally = {};
 let differ = 0;
+/** Whether both say the same. A forged head may be an estate's: the command refuses that line, and the page's checker, which reads estates too, a line or more below. */
+function agree(text, theirs, ours) {
+  return theirs === ours || (text.startsWith('fairsplit 2\n') && theirs === 'refused: line 1' && ours.startsWith('refused: line '));
+}
 async function compare(kind, text) {
   const theirs = (await run(['check'], text)).trim();
   const ours = lineOf(judge(text));
   const key = `${kind} ${theirs.replace(/line .*/, 'line')}`;
   tally[key] = (tally[key] ?? 0) + 1;
-  if (theirs !== ours && ++differ < 6) console.log(`checkers: ${theirs} and here ${ours}:\n${text}`);
+  if (!agree(text, theirs, ours) && ++differ < 6) console.log(`checkers: ${theirs} and here ${ours}:\n${text}`);
 }
 
 /** What the page works out from a certificate, as texts in the order of a report. */
