@@ -128,7 +128,7 @@ uint8_t fair_fares_route(uint32_t places, uint32_t flag, const uint32_t *legs, s
 /* Estates: goods of so many members, or so many goods, that fair_goods doesn't answer; 1 to 24 goods and 1 to 12 members, given as for fair_goods. The certificate is
  * of another kind ("fairsplit 2"): fair_estate_check judges it, and fair_check refuses it.
  *
- * A search takes at most limit steps, 1 to FAIR_ESTATE_STEPS, and goes in slices of so many steps, so that you can show how far it is, or end it. Set *reached to 0 and
+ * A search walks once or twice, each time at most limit steps, 1 to FAIR_ESTATE_STEPS. It goes in slices of so many steps, so that you can show how far it is, or end it. Set *reached to 0 and
  * call; while FAIR_GOES_ON comes back, call again with the same numbers, and with work, *reached and text as they were left. *reached is how many steps were made; the
  * certificate may say fewer, those of the tree that it prints. With steps UINT32_MAX one call does all. The same numbers give the same certificate, however it is
  * sliced. To end a search, don't call again: nothing has to be released. If work, *reached or text were changed in between, the search may find less, but what FAIR_DONE

@@ -8,7 +8,7 @@
 //     await read(estates, text, { members: ['Ann', 'Ben'] })   // the same, and with a yes the division: read.js
 //     estates.isLowered           // whether the module for a 32-bit memory answers, which was lowered by a tool that nobody proved
 //
-// The first argument is the most steps that the search may make, 1 to 1,000,000. With status 0 the owners are those of the best division, and the judge has said yes
+// The first argument is the most steps that the search may make each time it walks, which is once or twice, 1 to 1,000,000. With status 0 the owners are those of the best division, and the judge has said yes
 // to the text, which shows it. With status 1 they are those of the best division found, and the text is a line that says why there is no certificate. With status 3
 // it is a line with the field that is refused. `owners` has for each good the player who gets it, from 1, in the order of `who`.
 //

@@ -146,7 +146,7 @@ def estate(limit: int, who: Sequence[int], values: Rows) -> Tuple[int, str, List
     Parameters
     ----------
     limit : int
-        The most steps that the search may take, from 1 to 1,000,000.
+        The most steps that the search may take each time it walks, which is once or twice, from 1 to 1,000,000.
     who, values
         As for `goods`.
 
